@@ -1,0 +1,4 @@
+pub mod Numbers
+pub mod Spelt
+pub mod Tables
+pub mod Xors
