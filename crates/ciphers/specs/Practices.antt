@@ -4,6 +4,10 @@ use Prim.Native.Nat.{ℕ, _%_, _^_}
 use lib.Bits.{bitXor}
 use Rattle.blocks.specs.Blocks.{number}
 
--- the block xor the key; the remainder makes a block of any bytes, and changes nothing at sixteen
+-- the block xor the number k; the remainder makes a block of any number, and changes nothing at a block
+abbrev pub xor-image : ℕ → ℕ → ℕ
+xor-image k b = bitXor b (k % 2 ^ 128)
+
+-- the block xor the key
 abbrev pub practice : List ℕ → ℕ → ℕ
-practice key b = bitXor b (number key % 2 ^ 128)
+practice key = xor-image (number key)

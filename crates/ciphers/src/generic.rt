@@ -1,11 +1,18 @@
 ghost use mathlib.Core.Path.{_≡_};
 ghost use lib.Dec.{eqb};
-ghost use lib.ListN.{length};
-ghost use Rattle.std.specs.declared.result.Result.the-variants.{Ok, Err};
 ghost use Rattle.refusals.specs.Answers.{answered};
-ghost use Rattle.ciphers.specs.Keys.{key-told, image-answer};
+ghost use Rattle.ciphers.specs.Keys.{key-told, made-answer, meant, image-answer};
 use crate::cipher::BlockCipher;
 use crate::fault::KeyFault;
+
+// The cipher of a key; a key of the wrong length is refused as 7.
+pub fn under_key<C: BlockCipher + Drop>(key: &[u8]) -> Result<C, KeyFault>
+    ensures { λ r. ⌜ answered key-told (meant (C·BlockCipher .image) r) ≡ made-answer (C·BlockCipher .bytes) (C·BlockCipher .standard) (now (key .entry)) ⌝ }
+{
+    let mut cipher = C::with_zero_key();
+    cipher.set_key(key)?;
+    Ok(cipher)
+}
 
 // The image of a block under the cipher of a key, in one call; a key of the wrong length is refused as 7.
 pub fn image_under<C: BlockCipher + Drop>(key: &[u8], block: u128) -> Result<u128, KeyFault>

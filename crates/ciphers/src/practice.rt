@@ -1,7 +1,5 @@
 ghost use mathlib.Core.Path.{_≡_};
-ghost use Prim.Native.Nat.{_%_, _^_};
-ghost use lib.Bits.{bitXor};
-ghost use Rattle.ciphers.specs.Practices.{practice};
+ghost use Rattle.ciphers.specs.Practices.{practice, xor-image};
 use crate::cipher::BlockCipher;
 use crate::fault::KeyFault;
 
@@ -20,7 +18,7 @@ pub impl BlockCipher for Practice as PracticeCipher {
         Self::KEY_BYTES
     }
 
-    ghost image = { λ c b. bitXor b (c .key % 2 ^ 128) };
+    ghost image = { λ c. xor-image (c .key) };
 
     ghost standard = { practice };
 

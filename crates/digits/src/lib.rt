@@ -1,8 +1,10 @@
 // Numbers and bytes in digits: 0 to 9 and a to f, the first the highest, two a byte.
 ghost use mathlib.Core.Path.{_≡_};
+ghost use Prim.Native.Nat.{_*_, _^_, _<_};
 ghost use Rattle.digits.specs.Digits.{value-of, then-digit, number-of, digits-bytes};
 ghost use Rattle.std.specs.Of.Vec.{vec-items};
 ghost use Rattle.std.specs.Options.{mapped};
+ghost use Rattle.std.specs.Slices.{found};
 ghost use Rattle.std.specs.Vec.{made};
 use std::alloc::AllocError;
 use std::alloc::Global;
@@ -22,7 +24,8 @@ pub fn digit_value(c: char) -> Option<u8>
 
 // The number that a text of just `count` digits is; `None` for any other text, and where `count` is above 32.
 pub fn number(text: &[u8], count: usize) -> Option<u128>
-    ensures { λ r. ⌜ r ≡ number-of count (now (text .entry)) ⌝ }
+    ensures value { λ r. ⌜ r ≡ number-of count (now (text .entry)) ⌝ }
+    ensures bound { λ r. ⌜ found r (λ n. n < 2 ^ (4 * count)) ⌝ }
 {
     if text.len() != count || count > MOST_DIGITS {
         return None;

@@ -1,5 +1,5 @@
 -- A turn reads one digit more, or meets a character that is none.
-use mathlib.Core.Path.{_≡_, sym, ap, _∙_}
+use mathlib.Core.Path.{_≡_, sym, ap, subst, _∙_}
 use mathlib.Core.List.{List}
 use Prim.Native.Nat.{ℕ, _+_, _*_, _^_, _<_}
 use native.Mathlib.Omega.{arith}
@@ -16,9 +16,13 @@ loop-c-holds c = (sym number-none, omega arith)
 pub returns-in-Break-value : need.returns-in-Break-value
 returns-in-Break-value c =
     let cs = c .args .text .now in
-    c .from-residual .ensures
-    ∙ number-stops cs (c .loop-c .c-index) (omega arith) (sym (c .in-Break-value .was tt) ∙ c .digit-value .ensures)
-    ∙ sym (number-of-accepts (c .args .count) cs (omega arith) (omega arith))
+    record {
+      value =
+          c .from-residual .ensures
+          ∙ number-stops cs (c .loop-c .c-index) (omega arith) (sym (c .in-Break-value .was tt) ∙ c .digit-value .ensures)
+          ∙ sym (number-of-accepts (c .args .count) cs (omega arith) (omega arith));
+      bound = rw (c .from-residual .ensures) tt;
+    }
 
 -- what a turn makes of the sum fits
 next-fits : (cs : List ℕ) (i n d : ℕ) → i < 32 → n < 2 ^ (4 * i) → Some d ≡ value-of (getD cs i 0) → n * 16 + d < 2 ^ 128
@@ -46,6 +50,11 @@ loop-c-again c =
 pub returns : need.returns
 returns c =
     let cs = c .args .text .now in
-    sym (number-of-accepts (c .args .count) cs (omega arith) (omega arith)
-    ∙ ap digits-number (sym (take-all (c .loop-c .c-index) cs (omega arith)))
-    ∙ c .loop-c .inv .0)
+    let all : c .loop-c .c-index ≡ c .args .count = omega arith in
+    record {
+      value =
+          sym (number-of-accepts (c .args .count) cs (omega arith) (omega arith)
+          ∙ ap digits-number (sym (take-all (c .loop-c .c-index) cs (omega arith)))
+          ∙ c .loop-c .inv .0);
+      bound = subst (λ k. c .loop-c .sum < 2 ^ (4 * k)) all (c .loop-c .inv .1);
+    }

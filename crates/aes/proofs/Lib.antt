@@ -1,0 +1,4 @@
+pub mod Agree
+pub mod Begun
+pub mod Images
+pub mod Permutes

@@ -1,0 +1,3 @@
+pub mod State
+pub mod Cipher
+pub mod Keyed

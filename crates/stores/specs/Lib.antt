@@ -1,0 +1,4 @@
+pub mod Store
+pub mod Readings
+pub mod Registers
+pub mod Strips
