@@ -13,7 +13,7 @@ use Rattle.std.specs.shelf.Text.{sameBytes}
 use Rattle.digits.specs.Digits.{number-of}
 use Rattle.refusals.specs.Answers.{Answer}
 use Rattle.stores.specs.Store.{Store, raise-told, raise-answer, raised, restarted}
-use Rattle.storelines.specs.Splits.{Parts, parted}
+use Rattle.words.specs.Splits.{Parts, parted}
 use Rattle.storelines.specs.declared.order.Order.{Order}
 use Rattle.storelines.specs.declared.order.Order.the-variants as order
 use Rattle.storelines.specs.declared.order.Reply.{Reply}

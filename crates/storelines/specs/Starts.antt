@@ -11,7 +11,7 @@ use Rattle.std.specs.declared.option.Option.the-variants.{Some, None}
 use Rattle.std.specs.shelf.Text.{sameBytes}
 use Rattle.digits.specs.Digits.{number-of, digits-bytes}
 use Rattle.storelines.specs.Orders.{supply-of}
-use Rattle.storelines.specs.Splits.{Parts, parted}
+use Rattle.words.specs.Splits.{Parts, parted}
 use Rattle.storelines.specs.declared.order.Supply.{Supply}
 use Rattle.storelines.specs.declared.start.Start.{Start}
 use Rattle.storelines.specs.declared.start.Start.the-variants as start

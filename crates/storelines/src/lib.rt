@@ -1,4 +1,3 @@
 // The lines that the program `marktrace` reads, and what a mark store answers to each.
 pub mod order;
-pub mod part;
 pub mod start;

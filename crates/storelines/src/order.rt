@@ -1,9 +1,9 @@
 ghost use mathlib.Core.Path.{_≡_};
 ghost use Rattle.storelines.specs.Orders.{supply-of, order-of, order-parts, reply-answer, order-answer, obeyed};
-ghost use Rattle.storelines.specs.Splits.{parted};
-use crate::part::parts;
+ghost use Rattle.words.specs.Splits.{parted};
 use stores::fault::RaiseFault;
 use stores::store::MarkStore;
+use words::parts;
 
 const POWER_DIGITS: usize = 8;
 

@@ -1,12 +1,12 @@
 ghost use mathlib.Core.Path.{_≡_};
 ghost use Rattle.std.specs.Options.{mapped};
 ghost use Rattle.std.specs.Vec.{made};
-ghost use Rattle.storelines.specs.Splits.{parted};
+ghost use Rattle.words.specs.Splits.{parted};
 ghost use Rattle.storelines.specs.Starts.{start-told, start-of, register-parts, strip-parts};
 use crate::order::Supply;
-use crate::part::parts;
 use std::alloc::AllocError;
 use std::alloc::Global;
+use words::parts;
 
 const MARK_DIGITS: usize = 14;
 

@@ -1,0 +1,3 @@
+pub mod Counters
+pub mod Published
+pub mod Laws

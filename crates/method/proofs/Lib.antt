@@ -1,0 +1,3 @@
+pub mod Closed
+pub mod Joined
+pub mod Undone

@@ -1,0 +1,4 @@
+pub mod Products
+pub mod Remainders
+pub mod Ring
+pub mod Sums
