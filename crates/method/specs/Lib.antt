@@ -1,2 +1,3 @@
-pub mod Published
 pub mod Laws
+pub mod Limits
+pub mod Published

@@ -1,0 +1,4 @@
+pub mod Checks
+pub mod Gaps
+pub mod Parts
+pub mod Proved

@@ -1,0 +1,3 @@
+// Checking sheets, and reading checked ones at any offset.
+pub mod fault;
+pub mod sheet;
