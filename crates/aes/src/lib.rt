@@ -1,4 +1,6 @@
 // AES-128, as FIPS 197 defines it.
+#![tactic(auto)]
+
 ghost use Rattle.aes.specs.Cipher.{aes_128};
 ghost use Rattle.aes.specs.Keyed.{keys_image, held};
 ghost use Rattle.aes.specs.Images.{image-block, image-apart};

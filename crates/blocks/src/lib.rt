@@ -1,4 +1,6 @@
 // A block is sixteen bytes; as a number it is big-endian.
+#![tactic(auto)]
+
 ghost use Rattle.std.specs.Prelude.{◌≡◌};
 ghost use Rattle.blocks.specs.Blocks.{number, bytes_of};
 

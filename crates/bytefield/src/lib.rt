@@ -1,4 +1,6 @@
 // The field of the 256 bytes, and the substitution that AES makes of it.
+#![tactic(auto)]
+
 ghost use Rattle.std.specs.Prelude.{◌≡◌};
 ghost use Rattle.bytefield.specs.Field.{times_x};
 ghost use Rattle.bytefield.specs.Substitution.{substitution, Substitutes};

@@ -1,4 +1,6 @@
 // Numbers and bytes in digits: 0 to 9 and a to f, the first the highest, two a byte.
+#![tactic(auto)]
+
 ghost use Rattle.std.specs.Prelude.{◌≡◌, ◌*◌, ◌^◌, ◌<◌, IfSome, IfOk, vec_items};
 ghost use Rattle.digits.specs.Digits.{value_of, then_digit, number_of, digits_bytes};
 ghost use Rattle.std.specs.Option.{option_map};

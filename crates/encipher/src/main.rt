@@ -1,4 +1,6 @@
 // Enciphers blocks with a cipher that is chosen by name: docs/ciphers.md has the lines that it reads.
+#![tactic(auto)]
+
 use cipherlines::chosen::Name;
 use cipherlines::session::{Reply, Session};
 use refusals::Refusal;

@@ -1,4 +1,6 @@
 // What a program in C or Rust can link: numbers and byte slices, a slice as a pointer and a length.
+#![tactic(auto)]
+
 ghost use Rattle.std.specs.Prelude.{◌≡◌, ◌+◌, ◌*◌, ◌^◌, ◌++◌, length, if◌then◌else◌, nat_eq};
 ghost use Rattle.aes.specs.Cipher.{aes_128};
 ghost use Rattle.blocks.specs.Blocks.{bytes_of};

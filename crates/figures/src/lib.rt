@@ -1,4 +1,6 @@
 // The worked figures of the library, proved together.
+#![tactic(auto)]
+
 ghost use Rattle.std.specs.Prelude.{◌≡◌};
 ghost use Rattle.figures.specs.Figures.{Figures, example_output};
 

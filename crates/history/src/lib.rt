@@ -1,4 +1,6 @@
 // Histories: lists of calls replayed on a sealer, from set_up on. The theorem on every history is the contract of `replay`.
+#![tactic(auto)]
+
 use chm::draft::Sealed;
 use chm::fault::{BeginFault, BodyFault, HeadFault};
 

@@ -1,4 +1,6 @@
 // Takes mark stores through a day: docs/stores.md has the lines that it reads.
+#![tactic(auto)]
+
 ghost use Rattle.std.specs.Prelude.{◌<◌, ◌≤◌, length, IfOk};
 
 use refusals::Refusal;

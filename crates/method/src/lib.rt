@@ -1,4 +1,6 @@
 // CHM as it is published (specs/Published.antt), its closed forms, and the one step of it that no crate below has.
+#![tactic(auto)]
+
 ghost use Rattle.std.specs.Prelude.{◌≡◌};
 ghost use Rattle.blocks.specs.Blocks.{bytes_of};
 ghost use Rattle.method.specs.Laws.{MethodLaws};

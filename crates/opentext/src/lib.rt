@@ -1,4 +1,6 @@
 // A sheet opened of an input in lines, and told in lines.
+#![tactic(auto)]
+
 ghost use Rattle.std.specs.Prelude.{◌≡◌, IfOk};
 ghost use Rattle.opentext.specs.Texts.{sheetopen_text};
 

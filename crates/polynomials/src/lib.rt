@@ -1,5 +1,7 @@
 // Blocks as polynomials over the two-element field, multiplied modulo x^128 + x^7 + x^2 + x + 1. The first bit of a block is
 // the coefficient of x^127. No step branches on a block, so that the time it takes tells nothing about one.
+#![tactic(auto)]
+
 ghost use Rattle.std.specs.Prelude.{◌≡◌};
 ghost use Rattle.polynomials.specs.Laws.{ProductLaws, Ring};
 ghost use Rattle.polynomials.specs.Polynomials.{product, times_x};

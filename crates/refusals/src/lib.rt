@@ -1,4 +1,6 @@
 // What a refusal is to whoever reads it: a number, and the values that it tells.
+#![tactic(auto)]
+
 ghost use Rattle.std.specs.Prelude.{◌≡◌};
 ghost use Rattle.refusals.specs.Answers.{Told};
 

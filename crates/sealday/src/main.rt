@@ -1,5 +1,7 @@
 // Replays a day of calls on a sealer, under each cipher and over each store, prints each call with its answer, and then checks and
 // reads what was finished. At the end the last nonces of a register.
+#![tactic(auto)]
+
 use anyhow::anyhow;
 use checks::sheet::CheckedSheet;
 use checks::sheet::calls::check;

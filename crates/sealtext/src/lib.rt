@@ -1,4 +1,6 @@
 // A sheet sealed of an input in lines, and told in lines.
+#![tactic(auto)]
+
 ghost use Rattle.std.specs.Prelude.{◌≡◌, ◌≤◌, ◌++◌, length, take, drop};
 ghost use Rattle.sealtext.specs.Texts.{sheetseal_text, on_front};
 

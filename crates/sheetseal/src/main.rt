@@ -1,4 +1,6 @@
 // Seals a sheet of five lines: docs/sheetseal.md has what it reads and prints.
+#![tactic(auto)]
+
 use sealtext::sheetseal;
 use std::io::{Read, Write};
 

@@ -1,4 +1,6 @@
 // Writing the lines of a sheet.
+#![tactic(auto)]
+
 ghost use Rattle.std.specs.Prelude.{◌≡◌, length};
 ghost use Rattle.refusals.specs.Answers.{answered};
 ghost use Rattle.sheetlines.specs.Sheets.{lines_of};

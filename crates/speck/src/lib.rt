@@ -1,4 +1,6 @@
 // The block cipher Speck128/256: blocks of two 64-bit words, keys of four.
+#![tactic(auto)]
+
 ghost use Rattle.std.specs.Prelude.{◌≡◌, ◌+◌, ◌*◌, ◌≤◌, length, get_or};
 ghost use Rattle.speck.specs.Keyed.{keys_image};
 ghost use Rattle.speck.specs.Rounds.{round, rounds, speck, key_word};

@@ -1,4 +1,6 @@
 // Words of a line: a text in two at its first space.
+#![tactic(auto)]
+
 ghost use Rattle.std.specs.Prelude.{◌≡◌, Some, None, MatchOption};
 ghost use Rattle.words.specs.Splits.{parted};
 

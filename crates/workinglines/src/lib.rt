@@ -1,4 +1,6 @@
 // The lines that the program `workings` reads, and what it answers to each.
+#![tactic(auto)]
+
 pub mod session;
 mod stream;
 pub mod topic;

@@ -1,4 +1,6 @@
 // Shows the workings of the method: docs/method.md has the lines that it reads.
+#![tactic(auto)]
+
 use cipherlines::chosen::Name;
 use refusals::Refusal;
 use std::io;

@@ -8,38 +8,38 @@ use Rattle.digits.proofs.number.Goals as goal
 pub loop-c-init : goal.loop-c-init
 loop-c-init c = (sym number_none, omega arith)
 
-pub returns-in-err-value : goal.returns-in-err-value
-returns-in-err-value c =
+pub returns-in_err-value : goal.returns-in_err-value
+returns-in_err-value c =
     let cs = c.args.text.now in
     record {
       value =
-          c.from-residual.ensures
-          ∙ number_stops cs c.loop-c.c-index (omega arith) (sym c.in-err-value.was ∙ c.digit_value.ensures)
+          c.from_residual.ensures
+          ∙ number_stops cs c.loop-c.c-index (omega arith) (sym c.in_err-value.was ∙ c.digit_value.ensures)
           ∙ sym (number_of_accepts c.args.count cs (omega arith) (omega arith));
-      bound = rw c.from-residual.ensures tt;
+      bound = rw c.from_residual.ensures tt;
     }
 
 -- what a turn makes of the sum fits
 next_fits : (cs : List ℕ) (i n d : ℕ) → i < 32 → n < 2 ^ (4 * i) → Some d ≡ value_of (get_or cs i 0) → n * 16 + d < 2 ^ 128
 next_fits cs i n d h g e = few_bits (n * 16 + d) (i + 1) (more_bits n d i g (value_lt (get_or cs i 0) d e)) (omega arith)
 
-pub overflow-mul-sum : goal.overflow-mul-sum
-overflow-mul-sum c =
-    omega (arith, next_fits c.args.text.now c.loop-c.c-index c.loop-c.sum c.in-ok-value.value (omega arith) c.loop-c.invariant.1 c.in-ok-value.ensures)
+pub overflow_mul-sum : goal.overflow_mul-sum
+overflow_mul-sum c =
+    omega (arith, next_fits c.args.text.now c.loop-c.c-index c.loop-c.sum c.in_ok-value.value (omega arith) c.loop-c.invariant.1 c.in_ok-value.ensures)
 
-pub overflow-add-sum : goal.overflow-add-sum
-overflow-add-sum c =
-    omega (arith, c.from.ensures, next_fits c.args.text.now c.loop-c.c-index c.loop-c.sum c.in-ok-value.value (omega arith) c.loop-c.invariant.1 c.in-ok-value.ensures)
+pub overflow_add-sum : goal.overflow_add-sum
+overflow_add-sum c =
+    omega (arith, c.from.ensures, next_fits c.args.text.now c.loop-c.c-index c.loop-c.sum c.in_ok-value.value (omega arith) c.loop-c.invariant.1 c.in_ok-value.ensures)
 
 pub loop-c-preserved : goal.loop-c-preserved
 loop-c-preserved c =
     let i = c.loop-c.c-index in
     let cs = c.args.text.now in
-    let is : c.from.result ≡ c.in-ok-value.value = c.from.ensures in
-    let d = value_lt (get_or cs i 0) c.in-ok-value.value c.in-ok-value.ensures in
+    let is : c.from.result ≡ c.in_ok-value.value = c.from.ensures in
+    let d = value_lt (get_or cs i 0) c.in_ok-value.value c.in_ok-value.ensures in
     rw is (
-      number_more cs i c.loop-c.sum c.in-ok-value.value (omega arith) c.loop-c.invariant.0 c.in-ok-value.ensures,
-      more_bits c.loop-c.sum c.in-ok-value.value i c.loop-c.invariant.1 d,
+      number_more cs i c.loop-c.sum c.in_ok-value.value (omega arith) c.loop-c.invariant.0 c.in_ok-value.ensures,
+      more_bits c.loop-c.sum c.in_ok-value.value i c.loop-c.invariant.1 d,
     )
 
 pub returns : goal.returns

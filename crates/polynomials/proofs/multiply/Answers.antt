@@ -12,8 +12,8 @@ small zero a hp h = omega (arith, zero-mul a)
 small (suc zero) a hp h = omega (arith, one-mul a)
 small (suc (suc p)) a hp h = omega arith
 
-pub overflow-mul-sum : goal.overflow-mul-sum
-overflow-mul-sum c =
+pub overflow_mul-sum : goal.overflow_mul-sum
+overflow_mul-sum c =
     let p = c.loop-i in
     omega (arith, small (bit_and p.rest 1) p.shifted (omega (arith, and_mask p.rest 1)) p.invariant.0)
 

@@ -24,11 +24,11 @@ returns-in-Ok g c =
     let p = c.args.piece.now in
     let out = c.args.out in
     let ws = c.body.new.out in
-    let len : vec_len out ≡ length c.deref-mut.result.now = omega (arith, c.deref-mut.ensures.len) in
+    let len : vec_len out ≡ length c.deref_mut.result.now = omega (arith, c.deref_mut.ensures.len) in
     let same : length ws ≡ out.len = omega (arith, len) in
     record {
       answer = subst (λ x. wrote (vec_items (with_items out ws)) ≡ body_said E x p (vec_len out)) (sym c.in-Some.is)
-          (filled E c.in-Some.draft p c.deref-mut.result.now ws (vec_items (with_items out ws)) (vec_len out) len k.answer k.wrote (with_items_is out ws same));
+          (filled E c.in-Some.draft p c.deref_mut.result.now ws (vec_items (with_items out ws)) (vec_len out) len k.answer k.wrote (with_items_is out ws same));
       after = subst (λ x. Some c.body.new.self ≡ body_slot E x p (vec_len out)) (sym c.in-Some.is)
           (ap Some (k.after ∙ ap (bodied E c.in-Some.draft p) (sym len)));
     }

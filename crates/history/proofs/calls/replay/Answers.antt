@@ -12,9 +12,9 @@ use Rattle.history.proofs.calls.replay.Goals as goal
 
 pub loop-i-init : goal.loop-i-init
 loop-i-init g c =
-    let d = c.in-ok-drafts.ensures in
-    let r = c.in-ok-replies.ensures in
-    let o = c.in-ok-outs.ensures in
+    let d = c.in_ok-drafts.ensures in
+    let r = c.in_ok-replies.ensures in
+    let o = c.in_ok-outs.ensures in
     let m = g.S.MarkStore.meaning in
     let s = c.new-sealer.result in
     let stands = c.new-sealer.ensures.stands in (

@@ -9,7 +9,7 @@ pub returns : goal.returns
 returns c =
     let text = c.args.text.now in
     let size = length-unhex text in
-    let room : length c.deref-mut.result.now ≡ length (unhex text) = search rules in
-    let told : c.decode.new.out ≡ unhex text = c.decode.ensures ∙ decoded_fits text c.deref-mut.result.now (omega arith) in
+    let room : length c.deref_mut.result.now ≡ length (unhex text) = search rules in
+    let told : c.decode.new.out ≡ unhex text = c.decode.ensures ∙ decoded_fits text c.deref_mut.result.now (omega arith) in
     let long = ap length told in
-    take_at c.decode.new.out _ c.in-ok-bytes.bytes.len (search rules) ∙ told
+    take_at c.decode.new.out _ c.in_ok-bytes.bytes.len (search rules) ∙ told

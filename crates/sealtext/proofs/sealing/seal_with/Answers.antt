@@ -11,17 +11,17 @@ write_sheet-requires g c =
     let C = g.C.BlockCipher in
     let lines = c.args.lines in
     let s = c.new-sealer in
-    let cipher = c.in-ok-cipher.cipher in
-    let d = c.in-ok-draft.draft in
+    let cipher = c.in_ok-cipher.cipher in
+    let d = c.in_ok-draft.draft in
     let b =
     begun-over C.image C.bytes C.standard (unhex lines.key.now) lines.mark cipher c.new-register.result s.result d
-    c.in-ok-cipher.ensures c.new-register.ensures s.ensures.stands s.ensures.cipher
-    c.in-ok-draft.ensures.answer in
+    c.in_ok-cipher.ensures c.new-register.ensures s.ensures.stands s.ensures.cipher
+    c.in_ok-draft.ensures.answer in
     let same : c.cipher.result.now ≡ cipher = cc in
     record {
       begun = b.new ∙ ap (λ k. words_of (C.image k) d.nonce tag_bytes [] []) (sym same);
       nonce = b.small;
-      header = fits_within (unhex lines.header.now) c.in-ok-header_fits.ensures;
+      header = fits_within (unhex lines.header.now) c.in_ok-header_fits.ensures;
       message = c.requires.message;
       room = c.requires.room;
     }

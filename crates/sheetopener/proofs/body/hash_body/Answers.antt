@@ -9,8 +9,8 @@ use Rattle.sheetlines.specs.Sheets.{frames_of, later_frame}
 use Rattle.sheetopener.proofs.Bodies.{rest_bytes, size_more, bytes_more, line_decoded, length-told, told_bytes, absorbed_none}
 use Rattle.sheetopener.proofs.body.hash_body.Goals as goal
 
-pub slice-bounds-decode-end : goal.slice-bounds-decode-end
-slice-bounds-decode-end c =
+pub slice_bounds-decode-end : goal.slice_bounds-decode-end
+slice_bounds-decode-end c =
     let size = size_more c.loop-left.left c.loop-left.room c.min-width.result (omega arith) c.loop-left.invariant.2 c.min-width.ensures in
     omega arith
 

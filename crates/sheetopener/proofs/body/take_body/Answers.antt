@@ -8,8 +8,8 @@ use Rattle.sheetlines.specs.Sheets.{later_frame}
 use Rattle.sheetopener.proofs.Bodies.{rest_bytes, rest_size, size_more, bytes_more, line_decoded, length-told}
 use Rattle.sheetopener.proofs.body.take_body.Goals as goal
 
-pub slice-bounds-decode-end : goal.slice-bounds-decode-end
-slice-bounds-decode-end c =
+pub slice_bounds-decode-end : goal.slice_bounds-decode-end
+slice_bounds-decode-end c =
     let left = length c.args.out.now - c.loop-done.done in
     let is : c.min-width.result ≡ min left c.loop-done.room = omega arith in
     let size = size_more left c.loop-done.room c.min-width.result (omega arith) c.loop-done.invariant.2 is in

@@ -12,26 +12,26 @@ use Rattle.sheetopener.proofs.open.confirm.Goals as goal
 pub hash_line-header_hash-requires : goal.hash_line-header_hash-requires
 hash_line-header_hash-requires g c = let p = placed c.args.text.now c.args.fields c.requires in record { short = omega arith; within = omega arith }
 
-pub overflow-mul-body_at : goal.overflow-mul-body_at
-overflow-mul-body_at g c = let p = placed c.args.text.now c.args.fields c.requires in omega arith
+pub overflow_mul-body_at : goal.overflow_mul-body_at
+overflow_mul-body_at g c = let p = placed c.args.text.now c.args.fields c.requires in omega arith
 
-pub overflow-add-body_at : goal.overflow-add-body_at
-overflow-add-body_at g c = let p = placed c.args.text.now c.args.fields c.requires in omega arith
+pub overflow_add-body_at : goal.overflow_add-body_at
+overflow_add-body_at g c = let p = placed c.args.text.now c.args.fields c.requires in omega arith
 
-pub overflow-add-body_at-2 : goal.overflow-add-body_at-2
-overflow-add-body_at-2 g c = let p = placed c.args.text.now c.args.fields c.requires in omega arith
+pub overflow_add-body_at-2 : goal.overflow_add-body_at-2
+overflow_add-body_at-2 g c = let p = placed c.args.text.now c.args.fields c.requires in omega arith
 
 pub hash_body-ciphertext_hash-requires : goal.hash_body-ciphertext_hash-requires
 hash_body-ciphertext_hash-requires g c = let p = placed c.args.text.now c.args.fields c.requires in omega arith
 
-pub slice-bounds-bytes-end : goal.slice-bounds-bytes-end
-slice-bounds-bytes-end g c = let p = placed c.args.text.now c.args.fields c.requires in omega arith
+pub slice_bounds-bytes-end : goal.slice_bounds-bytes-end
+slice_bounds-bytes-end g c = let p = placed c.args.text.now c.args.fields c.requires in omega arith
 
-pub overflow-mul-tag_len : goal.overflow-mul-tag_len
-overflow-mul-tag_len g c = let p = placed c.args.text.now c.args.fields c.requires in omega arith
+pub overflow_mul-tag_len : goal.overflow_mul-tag_len
+overflow_mul-tag_len g c = let p = placed c.args.text.now c.args.fields c.requires in omega arith
 
-pub overflow-sub-end-2 : goal.overflow-sub-end-2
-overflow-sub-end-2 g c = let p = placed c.args.text.now c.args.fields c.requires in omega arith
+pub overflow_sub-end-2 : goal.overflow_sub-end-2
+overflow_sub-end-2 g c = let p = placed c.args.text.now c.args.fields c.requires in omega arith
 
 pub returns : goal.returns
 returns g c =

@@ -6,11 +6,11 @@ use Rattle.sheetopener.proofs.Bodies.{line_decoded}
 use Rattle.sheetopener.proofs.Placed.{placed, fronted}
 use Rattle.sheetopener.proofs.open.give_header.Goals as goal
 
-pub overflow-add-len : goal.overflow-add-len
-overflow-add-len c = let p = placed c.args.text.now c.args.fields c.requires.read in omega arith
+pub overflow_add-len : goal.overflow_add-len
+overflow_add-len c = let p = placed c.args.text.now c.args.fields c.requires.read in omega arith
 
-pub slice-bounds-decode-end : goal.slice-bounds-decode-end
-slice-bounds-decode-end c = let p = placed c.args.text.now c.args.fields c.requires.read in omega arith
+pub slice_bounds-decode-end : goal.slice_bounds-decode-end
+slice_bounds-decode-end c = let p = placed c.args.text.now c.args.fields c.requires.read in omega arith
 
 pub returns : goal.returns
 returns c =

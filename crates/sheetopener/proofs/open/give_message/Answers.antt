@@ -10,14 +10,14 @@ use Rattle.sheetlines.specs.Sheets.{frames_of, cipher_of}
 use Rattle.sheetopener.proofs.Placed.{placed, cipher-told, fronted}
 use Rattle.sheetopener.proofs.open.give_message.Goals as goal
 
-pub overflow-mul-fields : goal.overflow-mul-fields
-overflow-mul-fields g c = let p = placed c.args.text.now c.args.fields c.requires.read in omega arith
+pub overflow_mul-fields : goal.overflow_mul-fields
+overflow_mul-fields g c = let p = placed c.args.text.now c.args.fields c.requires.read in omega arith
 
-pub overflow-add-fields : goal.overflow-add-fields
-overflow-add-fields g c = let p = placed c.args.text.now c.args.fields c.requires.read in omega arith
+pub overflow_add-fields : goal.overflow_add-fields
+overflow_add-fields g c = let p = placed c.args.text.now c.args.fields c.requires.read in omega arith
 
-pub overflow-add-fields-2 : goal.overflow-add-fields-2
-overflow-add-fields-2 g c = let p = placed c.args.text.now c.args.fields c.requires.read in omega arith
+pub overflow_add-fields-2 : goal.overflow_add-fields-2
+overflow_add-fields-2 g c = let p = placed c.args.text.now c.args.fields c.requires.read in omega arith
 
 pub take_body-requires : goal.take_body-requires
 take_body-requires g c =

@@ -30,13 +30,13 @@ module _ (E : ℕ → ℕ) (text : List ℕ) (hs ms : ℕ) (f : Fields) (read : 
       as_read ∙ cond-false (ltb hs f.header_len) _ _ (le-ltb hs f.header_len h)
       ∙ cond-false (ltb ms f.message_len) _ _ (le-ltb ms f.message_len m) ∙ ap (if_checked f) (sym e)
 
-pub returns-in-err-fields : goal.returns-in-err-fields
-returns-in-err-fields g c =
+pub returns-in_err-fields : goal.returns-in_err-fields
+returns-in_err-fields g c =
     let E = g.C.BlockCipher.image c.args.cipher.now in
     let text = c.args.text.now in
-    let p = err_from_is_err_and c.from-residual.result c.from-residual.ensures.1 in
+    let p = err_from_is_err_and c.from_residual.result c.from_residual.ensures.1 in
     rw (p.1, p.2) (record {
-      answer = ap (open_read E text (length c.args.header.now) (length c.args.message.now)) c.in-err-fields.ensures.answer;
+      answer = ap (open_read E text (length c.args.header.now) (length c.args.message.now)) c.in_err-fields.ensures.answer;
       headed = refl;
       told = refl;
       laws = open_laws;
@@ -45,7 +45,7 @@ returns-in-err-fields g c =
 pub returns-then-header-fields : goal.returns-then-header-fields
 returns-then-header-fields g c = record {
   answer = sym (header-small (g.C.BlockCipher.image c.args.cipher.now) c.args.text.now (length c.args.header.now) (length c.args.message.now)
-      c.in-ok-fields.fields c.in-ok-fields.ensures.answer (omega arith));
+      c.in_ok-fields.fields c.in_ok-fields.ensures.answer (omega arith));
   headed = refl;
   told = refl;
   laws = open_laws;
@@ -54,18 +54,18 @@ returns-then-header-fields g c = record {
 pub returns-then-message-fields : goal.returns-then-message-fields
 returns-then-message-fields g c = record {
   answer = sym (message-small (g.C.BlockCipher.image c.args.cipher.now) c.args.text.now (length c.args.header.now) (length c.args.message.now)
-      c.in-ok-fields.fields c.in-ok-fields.ensures.answer (omega arith) (omega arith));
+      c.in_ok-fields.fields c.in_ok-fields.ensures.answer (omega arith) (omega arith));
   headed = refl;
   told = refl;
   laws = open_laws;
 }
 
-pub returns-in-err-confirm : goal.returns-in-err-confirm
-returns-in-err-confirm g c =
-    let p = err_from_is_err_and c.from-residual-in-err-confirm.result c.from-residual-in-err-confirm.ensures.1 in
+pub returns-in_err-confirm : goal.returns-in_err-confirm
+returns-in_err-confirm g c =
+    let p = err_from_is_err_and c.from_residual-in_err-confirm.result c.from_residual-in_err-confirm.ensures.1 in
     rw (p.1, p.2) (record {
       answer = sym (judged (g.C.BlockCipher.image c.args.cipher.now) c.args.text.now (length c.args.header.now) (length c.args.message.now)
-          c.in-ok-fields.fields c.in-ok-fields.ensures.answer (omega arith) (omega arith) _ c.in-err-confirm.ensures);
+          c.in_ok-fields.fields c.in_ok-fields.ensures.answer (omega arith) (omega arith) _ c.in_err-confirm.ensures);
       headed = refl;
       told = refl;
       laws = open_laws;
@@ -74,7 +74,7 @@ returns-in-err-confirm g c =
 pub returns : goal.returns
 returns g c = record {
   answer = sym (judged (g.C.BlockCipher.image c.args.cipher.now) c.args.text.now (length c.args.header.now) (length c.args.message.now)
-      c.in-ok-fields.fields c.in-ok-fields.ensures.answer (omega arith) (omega arith) _ c.in-ok-confirm.ensures);
+      c.in_ok-fields.fields c.in_ok-fields.ensures.answer (omega arith) (omega arith) _ c.in_ok-confirm.ensures);
   headed = c.give_header.ensures;
   told = c.give_message.ensures;
   laws = open_laws;

@@ -8,11 +8,11 @@ use Rattle.sheetreader.proofs.sheet.number.Goals as goal
 pub loop-byte-init : goal.loop-byte-init
 loop-byte-init c = (sym (number_none c.args.bytes.now), lit< tt)
 
-pub overflow-mul-sum : goal.overflow-mul-sum
-overflow-mul-sum c = omega (arith, seven_bytes c.loop-byte.sum c.loop-byte.byte-index c.loop-byte.invariant.1 (omega arith))
+pub overflow_mul-sum : goal.overflow_mul-sum
+overflow_mul-sum c = omega (arith, seven_bytes c.loop-byte.sum c.loop-byte.byte-index c.loop-byte.invariant.1 (omega arith))
 
-pub overflow-add-sum : goal.overflow-add-sum
-overflow-add-sum c = omega (arith, seven_bytes c.loop-byte.sum c.loop-byte.byte-index c.loop-byte.invariant.1 (omega arith), c.from.ensures)
+pub overflow_add-sum : goal.overflow_add-sum
+overflow_add-sum c = omega (arith, seven_bytes c.loop-byte.sum c.loop-byte.byte-index c.loop-byte.invariant.1 (omega arith), c.from.ensures)
 
 pub loop-byte-preserved : goal.loop-byte-preserved
 loop-byte-preserved c =

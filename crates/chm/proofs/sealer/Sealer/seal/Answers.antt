@@ -15,11 +15,11 @@ told : (r : Result Sealed SealFault) (x : BeginFault) → is_err r ≡ true → 
 told (Ok s) x e f = absurd (let z : ◌≡◌ {A = ℕ} 0 1 = cc in omega arith)
 told (Err t) x e f = ap (λ k. Err (seal_told k)) f
 
-pub returns-in-err-draft : goal.returns-in-err-draft
-returns-in-err-draft g c =
-    let z = c.in-ok-sizes_fit.ensures in
-    let b = c.in-err-draft.ensures in
-    let f = c.from-residual-in-err-draft.ensures in
+pub returns-in_err-draft : goal.returns-in_err-draft
+returns-in_err-draft g c =
+    let z = c.in_ok-sizes_fit.ensures in
+    let b = c.in_err-draft.ensures in
+    let f = c.from_residual-in_err-draft.ensures in
     let E = g.C.BlockCipher.image c.args.self.now.cipher in
     let s = sealer_standing g.S.MarkStore.meaning c.args.self.now in
     let t = c.args.tag_len in
@@ -28,7 +28,7 @@ returns-in-err-draft g c =
     let out = c.args.out.now in
     let no = seal-refused E s t h m (length out) _ z b.answer in
     record {
-      answer = told c.from-residual-in-err-draft.result c.in-err-draft.field-0.0 f.0 f.1 ∙ no;
+      answer = told c.from_residual-in_err-draft.result c.in_err-draft.field-0.0 f.0 f.1 ∙ no;
       after = b.after ∙ ap (λ a. if_accepted a (begun s t) s) z;
       wrote = ap (ciphered_under E m out) no;
       cipher = b.cipher;
@@ -36,15 +36,15 @@ returns-in-err-draft g c =
 
 pub returns : goal.returns
 returns g c =
-    let z = c.in-ok-sizes_fit.ensures in
-    let b = c.in-ok-draft.ensures in
+    let z = c.in_ok-sizes_fit.ensures in
+    let b = c.in_ok-draft.ensures in
     let E = g.C.BlockCipher.image c.args.self.now.cipher in
     let s = sealer_standing g.S.MarkStore.meaning c.args.self.now in
     let t = c.args.tag_len in
     let h = c.args.header.now in
     let m = c.args.message.now in
     let out = c.args.out.now in
-    let d = c.in-ok-draft.draft in
+    let d = c.in_ok-draft.draft in
     let same : g.C.BlockCipher.image c.begin.new.self.cipher ≡ E = ap g.C.BlockCipher.image b.cipher in
     let head : c.head.new.self ≡ headed d h = c.head.ensures.after in
     let ws : c.body.new.out ≡ body_out E (headed d h) m out = c.body.ensures.wrote ∙ (λ i. body_out (same i) (head i) m out) in
