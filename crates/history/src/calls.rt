@@ -19,10 +19,10 @@ fn begin_one<C: BlockCipher, S: MarkStore>(
     tag_len: u8,
 ) -> Reply
     requires { vec_len drafts.old < vec_capacity drafts.old }
-    ensures answer { said result ≡ begin_said (vec_len drafts.old) (begin_answer (image sealer.old.cipher) (sealer_standing meaning sealer.old) tag_len) }
-    ensures stands { sealer_standing meaning sealer.new ≡ begun (sealer_standing meaning sealer.old) tag_len }
+    ensures answer { said result ≡ begin_said (vec_len drafts.old) (begin_answer (C.image sealer.old.cipher) (sealer_standing S.meaning sealer.old) tag_len) }
+    ensures stands { sealer_standing S.meaning sealer.new ≡ begun (sealer_standing S.meaning sealer.old) tag_len }
     ensures cipher { sealer.new.cipher ≡ sealer.old.cipher }
-    ensures items { drafts.new.items ≡ drafts.old.items ++ new_slot (begin_answer (image sealer.old.cipher) (sealer_standing meaning sealer.old) tag_len) }
+    ensures items { drafts.new.items ≡ drafts.old.items ++ new_slot (begin_answer (C.image sealer.old.cipher) (sealer_standing S.meaning sealer.old) tag_len) }
     ensures capacity { vec_capacity drafts.new ≡ vec_capacity drafts.old }
 {
     match sealer.begin(tag_len) {
@@ -65,8 +65,8 @@ fn body_at<C: BlockCipher>(
     piece: &[u8],
     out: Vec<u8>,
 ) -> Reply
-    ensures answer { said result ≡ body_said (image cipher.now) slot.old piece.now (vec_len out) }
-    ensures after { slot.new ≡ body_slot (image cipher.now) slot.old piece.now (vec_len out) }
+    ensures answer { said result ≡ body_said (C.image cipher.now) slot.old piece.now (vec_len out) }
+    ensures after { slot.new ≡ body_slot (C.image cipher.now) slot.old piece.now (vec_len out) }
 {
     let mut out = out;
     match slot {
@@ -85,8 +85,8 @@ fn body_one<C: BlockCipher>(
     piece: &[u8],
     out: Vec<u8>,
 ) -> Reply
-    ensures answer { said result ≡ body_said (image cipher.now) (slice_index_or drafts.old.items n None) piece.now (vec_len out) }
-    ensures items { drafts.new.items ≡ slice_set drafts.old.items n (body_slot (image cipher.now) (slice_index_or drafts.old.items n None) piece.now (vec_len out)) }
+    ensures answer { said result ≡ body_said (C.image cipher.now) (slice_index_or drafts.old.items n None) piece.now (vec_len out) }
+    ensures items { drafts.new.items ≡ slice_set drafts.old.items n (body_slot (C.image cipher.now) (slice_index_or drafts.old.items n None) piece.now (vec_len out)) }
     ensures capacity { vec_capacity drafts.new ≡ vec_capacity drafts.old }
 {
     if n >= drafts.len() {
@@ -136,7 +136,7 @@ fn answer<C: BlockCipher, S: MarkStore>(
 ) -> Reply
     requires space { vec_len drafts.old < vec_capacity drafts.old }
     requires room { RoomFor (asked call.now) out }
-    ensures answered { Answered (image sealer.old.cipher) (sealer_standing meaning sealer.old) drafts.old.items (asked call.now) (said result) (sealer_standing meaning sealer.new) drafts.new.items }
+    ensures answered { Answered (C.image sealer.old.cipher) (sealer_standing S.meaning sealer.old) drafts.old.items (asked call.now) (said result) (sealer_standing S.meaning sealer.new) drafts.new.items }
     ensures cipher { sealer.new.cipher ≡ sealer.old.cipher }
     ensures longer { vec_len drafts.new ≤ vec_len drafts.old + 1 }
     ensures capacity { vec_capacity drafts.new ≡ vec_capacity drafts.old }
@@ -204,7 +204,7 @@ pub fn replay<C: BlockCipher + Drop, S: MarkStore + Drop>(
     store: S,
     calls: &[Call<'_>],
 ) -> Result<Vec<Reply>, AllocError>
-    ensures { IfOk result (λ v. Histories (image cipher) (meaning store) (map asked calls.now) (map said v.items)) }
+    ensures { IfOk result (λ v. Histories (C.image cipher) (S.meaning store) (map asked calls.now) (map said v.items)) }
 {
     let mut outs = buffers(heap, calls)?;
     let mut drafts = Vec::with_capacity(heap, calls.len())?;

@@ -31,7 +31,7 @@ fn counter_behind(index: u64) -> u64
 // The mask of a frame that a message can reach.
 pub(crate) fn reached_mask<C: BlockCipher>(cipher: &C, nonce: u64, frame: u64) -> u128
     requires { frame < 2 ^ 55 }
-    ensures { result ≡ mask (image cipher.now) nonce frame }
+    ensures { result ≡ mask (C.image cipher.now) nonce frame }
 {
     cipher.image_of(counter_of(nonce, FRAME_COUNTERS * frame))
 }
@@ -39,15 +39,15 @@ pub(crate) fn reached_mask<C: BlockCipher>(cipher: &C, nonce: u64, frame: u64) -
 // A keystream block, given its frame's mask.
 pub(crate) fn block_under<C: BlockCipher>(cipher: &C, nonce: u64, index: u64, veil: u128) -> u128
     requires reached { index < 2 ^ 63 }
-    requires masked { veil ≡ mask (image cipher.now) nonce (index / 256) }
-    ensures { result ≡ block_at (image cipher.now) nonce index }
+    requires masked { veil ≡ mask (C.image cipher.now) nonce (index / 256) }
+    ensures { result ≡ block_at (C.image cipher.now) nonce index }
 {
     cipher.image_of(counter_of(nonce, counter_behind(index))) ^ veil
 }
 
 // The mask of a frame of a nonce's keystream.
 pub fn mask_of<C: BlockCipher>(cipher: &C, nonce: u64, frame: u32) -> u128
-    ensures { result ≡ mask (image cipher.now) nonce frame }
+    ensures { result ≡ mask (C.image cipher.now) nonce frame }
 {
     reached_mask(cipher, nonce, u64::from(frame))
 }
@@ -55,7 +55,7 @@ pub fn mask_of<C: BlockCipher>(cipher: &C, nonce: u64, frame: u32) -> u128
 // A block of a nonce's keystream, by its number. The published keystream is these blocks in a row; three of them are
 // worked out.
 pub fn block_of<C: BlockCipher>(cipher: &C, nonce: u64, index: u32) -> u128
-    ensures value { result ≡ block_at (image cipher.now) nonce index }
+    ensures value { result ≡ block_at (C.image cipher.now) nonce index }
     ensures closed { Closed }
     ensures figures { PracticeFigures }
 {

@@ -12,7 +12,7 @@ const CONST1: u128 = 340282366920938463463374607431768211455;
 
 // The images of the two constants: the key that ciphertexts are hashed under, and the key for headers.
 pub fn hash_keys<C: BlockCipher>(cipher: &C) -> (u128, u128)
-    ensures { result ≡ (image cipher.now const0, image cipher.now const1) }
+    ensures { result ≡ (C.image cipher.now const0, C.image cipher.now const1) }
 {
     (cipher.image_of(CONST0), cipher.image_of(CONST1))
 }

@@ -28,7 +28,7 @@ fn xor_part(word: u128, skip: usize, part: &mut [u8])
 
 // Xors bytes that stand at a message offset with the keystream, in place. Nothing before the offset is worked out.
 pub fn xor_onto<C: BlockCipher>(cipher: &C, nonce: u64, offset: u64, bytes: &mut [u8])
-    ensures { bytes.new ≡ ciphered (image cipher.now) nonce offset bytes.old }
+    ensures { bytes.new ≡ ciphered (C.image cipher.now) nonce offset bytes.old }
 {
     let mut veil = 0;
     let mut at = 0;
@@ -62,7 +62,7 @@ pub fn xor_into<C: BlockCipher>(
 ) -> bool
     ensures fits { result ≡ nat_le (length piece.now) (length out.old) }
     ensures written { length piece.now ≤ length out.old → out.new ≡
-        ciphered (image cipher.now) nonce offset piece.now ++ drop (length piece.now) out.old }
+        ciphered (C.image cipher.now) nonce offset piece.now ++ drop (length piece.now) out.old }
     ensures kept { length out.old < length piece.now → out.new ≡ out.old }
 {
     if out.len() < piece.len() {
@@ -76,7 +76,7 @@ pub fn xor_into<C: BlockCipher>(
 
 // Fills a buffer with the keystream's bytes from a message offset on.
 pub fn stream_bytes<C: BlockCipher>(cipher: &C, nonce: u64, offset: u64, out: &mut [u8])
-    ensures { out.new ≡ stream_from (image cipher.now) nonce offset (length out.old) }
+    ensures { out.new ≡ stream_from (C.image cipher.now) nonce offset (length out.old) }
 {
     out.fill(0);
     xor_onto(cipher, nonce, offset, out);

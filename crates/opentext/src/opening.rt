@@ -25,7 +25,7 @@ fn bytes_of(heap: Global, text: &[u8]) -> Result<Vec<u8>, AllocError>
 
 // Header and message of the sheet's lines, a line each, or the refusal.
 fn open_text<C: BlockCipher>(heap: Global, cipher: &C, text: &[u8]) -> Result<Vec<u8>, AllocError>
-    ensures { IfOk result (λ v. v.items ≡ opened_text (image cipher.now) text.now) }
+    ensures { IfOk result (λ v. v.items ≡ opened_text (C.image cipher.now) text.now) }
 {
     let mut header = vec![in heap; 0u8; HEADER_LIMIT]?;
     let mut message = vec![in heap; 0u8; MESSAGE_LIMIT]?;

@@ -71,16 +71,16 @@ fn finish_draft<C: BlockCipher>(
     message: &[u8],
     ciphertext: &mut [u8],
 ) -> Sealed
-    requires begun { draft ≡ words_of (image cipher.now) draft.nonce tag_bytes [] [] }
+    requires begun { draft ≡ words_of (C.image cipher.now) draft.nonce tag_bytes [] [] }
     requires nonce { draft.nonce < 2 ^ 63 }
     requires header { length header.now ≤ header_limit }
     requires message { length message.now ≤ message_limit }
     requires room { length ciphertext.old ≡ length message.now }
     ensures nonce { result.nonce ≡ draft.nonce }
     ensures tag { result.tag ≡
-        tag (image cipher.now) tag_bytes draft.nonce header.now
-        (crypt (image cipher.now) draft.nonce message.now) }
-    ensures wrote { ciphertext.new ≡ crypt (image cipher.now) draft.nonce message.now }
+        tag (C.image cipher.now) tag_bytes draft.nonce header.now
+        (crypt (C.image cipher.now) draft.nonce message.now) }
+    ensures wrote { ciphertext.new ≡ crypt (C.image cipher.now) draft.nonce message.now }
 {
     // both are within the limits, so neither is refused
     let _ = draft.head(header);
@@ -96,15 +96,15 @@ fn write_sheet<C: BlockCipher>(
     message: &[u8],
     out: &mut [u8],
 ) -> usize
-    requires begun { draft ≡ words_of (image cipher.now) draft.nonce tag_bytes [] [] }
+    requires begun { draft ≡ words_of (C.image cipher.now) draft.nonce tag_bytes [] [] }
     requires nonce { draft.nonce < 2 ^ 63 }
     requires header { length (unhex header.now) ≤ header_limit }
     requires message { length (unhex message.now) ≤ longest_message }
     requires room { length out.old ≡ 65536 }
     ensures count { result ≡
-        length (sheet_lines (image cipher.now) (unhex header.now) (unhex message.now) draft.nonce) }
+        length (sheet_lines (C.image cipher.now) (unhex header.now) (unhex message.now) draft.nonce) }
     ensures wrote { out.new ≡
-        on_front (sheet_lines (image cipher.now) (unhex header.now) (unhex message.now) draft.nonce)
+        on_front (sheet_lines (C.image cipher.now) (unhex header.now) (unhex message.now) draft.nonce)
         out.old }
 {
     let mut header_room = [0; HEADER_LIMIT];

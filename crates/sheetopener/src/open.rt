@@ -22,7 +22,7 @@ use sheetreader::sheet::read_sheet;
 // Confirms the tag of a sheet whose lines were read. Nothing is deciphered.
 fn confirm<C: BlockCipher>(cipher: &C, text: &[u8], fields: Fields) -> Result<(), CheckFault>
     requires { sheet_answer text.now ≡ Ok fields }
-    ensures { answered check_told result ≡ check_answer (image cipher.now) fields.nonce
+    ensures { answered check_told result ≡ check_answer (C.image cipher.now) fields.nonce
         (header_of fields text.now) (cipher_of fields text.now) (tag_of fields text.now) }
 {
     let (ciphertext_key, header_key) = hash_keys(cipher);
@@ -52,7 +52,7 @@ fn give_message<C: BlockCipher>(cipher: &C, text: &[u8], fields: Fields, out: &m
     requires read { sheet_answer text.now ≡ Ok fields }
     requires room { fields.message_len ≤ length out.old }
     ensures { out.new ≡
-        at_front (crypt (image cipher.now) fields.nonce (cipher_of fields text.now)) out.old }
+        at_front (crypt (C.image cipher.now) fields.nonce (cipher_of fields text.now)) out.old }
 {
     let len = fields.message_len;
     let message = &mut out[0..len];
@@ -71,11 +71,11 @@ pub fn open<C: BlockCipher>(
     message: &mut [u8],
 ) -> Result<Fields, OpenFault>
     ensures answer { answered open_told result ≡
-        open_answer (image cipher.now) text.now (length header.old) (length message.old) }
+        open_answer (C.image cipher.now) text.now (length header.old) (length message.old) }
     ensures headed { header.new ≡
         filled (answered open_told result) (λ f. header_of f text.now) header.old }
     ensures told { message.new ≡
-        filled (answered open_told result) (λ f. crypt (image cipher.now) f.nonce (cipher_of f text.now)) message.old }
+        filled (answered open_told result) (λ f. crypt (C.image cipher.now) f.nonce (cipher_of f text.now)) message.old }
     ensures laws { OpenLaws }
 {
     let fields = read_sheet(text)?;

@@ -74,8 +74,8 @@ impl Order {
 
     // Does what is told, to any mark store.
     pub fn give<S: MarkStore>(self, store: &mut S) -> Reply
-        ensures answer { reply_answer result ≡ order_answer self (meaning store.old) }
-        ensures after { meaning store.new ≡ obeyed self (meaning store.old) }
+        ensures answer { reply_answer result ≡ order_answer self (S.meaning store.old) }
+        ensures after { S.meaning store.new ≡ obeyed self (S.meaning store.old) }
     {
         match self {
             Order::Raise => match store.raise() {

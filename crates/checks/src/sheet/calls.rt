@@ -29,8 +29,8 @@ const NONCE_END: u64 = 9223372036854775808;
 
 // The sixteen bytes of which a sheet's tag is the first ones.
 fn full_tag<C: BlockCipher>(cipher: &C, nonce: u64, header: &[u8], ciphertext: &[u8]) -> [u8; 16]
-    ensures { result ≡ bytes_of 16 (tag_block (hash (image cipher.now const0) ciphertext.now)
-        (hash (image cipher.now const1) header.now) (block_at (image cipher.now) nonce 0)) }
+    ensures { result ≡ bytes_of 16 (tag_block (hash (C.image cipher.now const0) ciphertext.now)
+        (hash (C.image cipher.now const1) header.now) (block_at (C.image cipher.now) nonce 0)) }
 {
     let (ciphertext_key, header_key) = hash_keys(cipher);
     let ciphertext_hash = hash_of(ciphertext_key, ciphertext);
@@ -60,7 +60,7 @@ pub fn check<'a, C: BlockCipher>(
     tag: &[u8],
 ) -> Result<CheckedSheet<'a>, CheckFault>
     ensures answer { answered check_told (accepted result) ≡
-        check_answer (image cipher.now) nonce header.now ciphertext.now tag.now }
+        check_answer (C.image cipher.now) nonce header.now ciphertext.now tag.now }
     ensures sheet { IfOk result (λ s. (s.ciphertext.now ≡ ciphertext.now) × (s.nonce ≡ nonce)) }
     ensures laws { CheckLaws }
 {
@@ -107,7 +107,7 @@ impl CheckedSheet<'_> {
     ) -> Result<(), ReadFault>
         ensures answer { answered read_told result ≡ read_answer self.now.ciphertext.now offset (length out.old) }
         ensures wrote { out.new ≡
-            read_out (image cipher.now) self.now.nonce self.now.ciphertext.now offset out.old }
+            read_out (C.image cipher.now) self.now.nonce self.now.ciphertext.now offset out.old }
     {
         let len = self.len();
         let room = out.len();

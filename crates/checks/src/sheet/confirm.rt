@@ -21,7 +21,7 @@ pub fn confirm_tag<C: BlockCipher>(
     tag: &[u8],
 ) -> Result<(), CheckFault>
     ensures { answered check_told result ≡
-        tag_answer (tag_block ciphertext_hash header_hash (block_at (image cipher.now) nonce 0)) tag.now }
+        tag_answer (tag_block ciphertext_hash header_hash (block_at (C.image cipher.now) nonce 0)) tag.now }
 {
     let full = tag_bytes(ciphertext_hash, header_hash, block_of(cipher, nonce, 0));
     if tag.len() > full.len() {

@@ -19,7 +19,7 @@ pub(crate) const MESSAGE_LIMIT: u64 = 1048576;
 
 impl Draft {
     pub(crate) fn new<C: BlockCipher>(cipher: &C, nonce: u64, tag_len: u8) -> Draft
-        ensures { result ≡ words_of (image cipher.now) nonce tag_len [] [] }
+        ensures { result ≡ words_of (C.image cipher.now) nonce tag_len [] [] }
     {
         let (body_key, head_key) = hash_keys(cipher);
         Draft {
@@ -62,8 +62,8 @@ impl Draft {
         out: &mut [u8],
     ) -> Result<(), BodyFault>
         ensures answer { answered body_told result ≡ body_answer self.old piece.now (length out.old) }
-        ensures after { self.new ≡ bodied (image cipher.now) self.old piece.now (length out.old) }
-        ensures wrote { out.new ≡ body_out (image cipher.now) self.old piece.now out.old }
+        ensures after { self.new ≡ bodied (C.image cipher.now) self.old piece.now (length out.old) }
+        ensures wrote { out.new ≡ body_out (C.image cipher.now) self.old piece.now out.old }
     {
         if out.len() != piece.len() {
             return Err(BodyFault::LengthsDiffer);

@@ -16,7 +16,7 @@ const BATCH_NONCES: u16 = 1024;
 impl<C: BlockCipher, S: MarkStore> Sealer<C, S> {
     // Set-up: live and without a batch, over a cipher and a store as it is.
     pub fn new(cipher: C, store: S) -> Sealer<C, S>
-        ensures stands { sealer_standing meaning result ≡ standing (meaning store) true None }
+        ensures stands { sealer_standing S.meaning result ≡ standing (S.meaning store) true None }
         ensures cipher { result.cipher ≡ cipher }
     {
         Sealer {
@@ -36,8 +36,8 @@ impl<C: BlockCipher, S: MarkStore> Sealer<C, S> {
 
     // The next nonce of the batch; where none is left, the first of a new one. A raise that completed is what makes a batch.
     fn issue(&mut self) -> Result<u64, RaiseFault>
-        ensures answer { answered raise_told result ≡ issue_answer (sealer_standing meaning self.old) }
-        ensures after { sealer_standing meaning self.new ≡ issued (sealer_standing meaning self.old) }
+        ensures answer { answered raise_told result ≡ issue_answer (sealer_standing S.meaning self.old) }
+        ensures after { sealer_standing S.meaning self.new ≡ issued (sealer_standing S.meaning self.old) }
         ensures cipher { self.new.cipher ≡ self.old.cipher }
     {
         if let Some(batch) = self.batch {
@@ -62,8 +62,8 @@ impl<C: BlockCipher, S: MarkStore> Sealer<C, S> {
     // down (21); and what the raise reports where the batch has no nonce left: full (22), or a power failure (23), which takes the
     // sealer down.
     pub fn begin(&mut self, tag_len: u8) -> Result<Draft, BeginFault>
-        ensures answer { answered begin_told result ≡ begin_answer (image self.old.cipher) (sealer_standing meaning self.old) tag_len }
-        ensures after { sealer_standing meaning self.new ≡ begun (sealer_standing meaning self.old) tag_len }
+        ensures answer { answered begin_told result ≡ begin_answer (C.image self.old.cipher) (sealer_standing S.meaning self.old) tag_len }
+        ensures after { sealer_standing S.meaning self.new ≡ begun (sealer_standing S.meaning self.old) tag_len }
         ensures cipher { self.new.cipher ≡ self.old.cipher }
     {
         if tag_len < 12 || tag_len > 16 {
@@ -79,7 +79,7 @@ impl<C: BlockCipher, S: MarkStore> Sealer<C, S> {
     // Live again, without a batch, over the store restarted with this power and leftover byte. What was left of the batch is never
     // given out, and open drafts go on.
     pub fn restart(&mut self, power: u32, leftover: u8)
-        ensures after { sealer_standing meaning self.new ≡ restarted_sealer (sealer_standing meaning self.old) power leftover }
+        ensures after { sealer_standing S.meaning self.new ≡ restarted_sealer (sealer_standing S.meaning self.old) power leftover }
         ensures cipher { self.new.cipher ≡ self.old.cipher }
     {
         self.store.restart(power, leftover);

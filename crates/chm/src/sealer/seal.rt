@@ -40,9 +40,9 @@ impl<C: BlockCipher, S: MarkStore> Sealer<C, S> {
         message: &[u8],
         out: &mut [u8],
     ) -> Result<Sealed, SealFault>
-        ensures answer { answered seal_told result ≡ seal_answer (image self.old.cipher) (sealer_standing meaning self.old) tag_len header.now message.now (length out.old) }
-        ensures after { sealer_standing meaning self.new ≡ sealed_standing (sealer_standing meaning self.old) tag_len header.now message.now (length out.old) }
-        ensures wrote { out.new ≡ seal_out (image self.old.cipher) (sealer_standing meaning self.old) tag_len header.now message.now out.old }
+        ensures answer { answered seal_told result ≡ seal_answer (C.image self.old.cipher) (sealer_standing S.meaning self.old) tag_len header.now message.now (length out.old) }
+        ensures after { sealer_standing S.meaning self.new ≡ sealed_standing (sealer_standing S.meaning self.old) tag_len header.now message.now (length out.old) }
+        ensures wrote { out.new ≡ seal_out (C.image self.old.cipher) (sealer_standing S.meaning self.old) tag_len header.now message.now out.old }
         ensures cipher { self.new.cipher ≡ self.old.cipher }
     {
         sizes_fit(tag_len, header.len(), message.len(), out.len())?;

@@ -15,7 +15,7 @@ const NONCE_STEP: u128 = 18446744073709551616;
 // A keystream block under a mask.
 fn word_under<C: BlockCipher>(cipher: &C, nonce: u64, veil: u128, index: u64) -> u128
     requires { index < 2 ^ 32 }
-    ensures { result ≡ block_under (image cipher.now) nonce veil index }
+    ensures { result ≡ block_under (C.image cipher.now) nonce veil index }
 {
     let j = FRAME_COUNTERS * (index / FRAME_BLOCKS) + index % FRAME_BLOCKS + 1;
     cipher.image_of(u128::from(nonce) * NONCE_STEP + u128::from(j)) ^ veil
@@ -24,7 +24,7 @@ fn word_under<C: BlockCipher>(cipher: &C, nonce: u64, veil: u128, index: u64) ->
 // The words for the next byte.
 fn turn<C: BlockCipher>(cipher: &C, nonce: u64, words: KeyWords) -> KeyWords
     requires { words.len < 2 ^ 32 }
-    ensures turns { result ≡ turned (image cipher.now) nonce words }
+    ensures turns { result ≡ turned (C.image cipher.now) nonce words }
     ensures stays { result.len ≡ words.len }
 {
     if words.len % 16 != 0 {
@@ -65,8 +65,8 @@ pub(crate) fn send<C: BlockCipher>(
 ) -> KeyWords
     requires lengths { length out.old ≡ length piece.now }
     requires small { start.len + length piece.now < 2 ^ 32 }
-    ensures wrote { out.new ≡ sent (image cipher.now) nonce start piece.now }
-    ensures words { result ≡ steps (image cipher.now) nonce start (length piece.now) }
+    ensures wrote { out.new ≡ sent (C.image cipher.now) nonce start piece.now }
+    ensures words { result ≡ steps (C.image cipher.now) nonce start (length piece.now) }
 {
     let mut words = start;
     let mut at = 0;
