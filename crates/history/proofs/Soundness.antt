@@ -1,4 +1,4 @@
--- Every history from set_up on is sound: its seals are within the limits and have the published ciphertext, and their nonces rise below a
+-- Every history from set-up on is sound: its seals are within the limits and have the published ciphertext, and their nonces rise below a
 -- front that the batch and the mark give. Assumes nothing.
 use Rattle.std.proofs.Common.{◌≡◌, ℕ, zero, suc, ◌+◌, ◌*◌, ◌^◌, ◌<◌, ◌≤◌, Bool, true, false, ◌⊎◌, List, [], ◌∷◌, ◌++◌, map, length, get_or, set, Some, None, Ok, Option, sym, refl, ap, ◌∙◌, subst, inl, inr, ⊎_elim, arith}
 use Rattle.std.proofs.lemmas.List.{map_push, map-set, set-get_or, length_push, length-map, get_or_push, get_or_append_left, get_or-map, length-append}

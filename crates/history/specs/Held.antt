@@ -1,7 +1,7 @@
 -- How the code holds a history: the sealer as it stands, and a place for each draft that was handed out. Assumes nothing.
 -- slot E s: the place of a seal's draft: empty when it is finished.
 -- Held E h s ds: a sealer that stands so, and these places, hold the history h.
--- Sound E h: what is true of every history from set_up on.
+-- Sound E h: what is true of every history from set-up on.
 -- Answered: a call that finds a sealer and places leaves others, whatever sound history they hold.
 use Rattle.std.specs.Prelude.{◌≡◌, ℕ, ◌+◌, ◌*◌, ◌^◌, ◌<◌, ◌≤◌, cond, List, map, length, Some, None, Option, slice_index, slice_index_or}
 use Rattle.blocks.specs.Blocks.{AllBytes}
@@ -62,7 +62,7 @@ pub record Next (E : ℕ → ℕ) (h : History) (c : Asked) (r : Said) (s : Stan
 abbrev pub Answered : (ℕ → ℕ) → Standing → List (Option Draft) → Asked → Said → Standing → List (Option Draft) → Type 0
 Answered E s ds c r s' ds' = (h : History) → Sound E h → Held E h s ds → Next E h c r s' ds'
 
--- from set_up over the store s, the calls cs, answered rs, led to what the code holds
+-- from set-up over the store s, the calls cs, answered rs, led to what the code holds
 pub record Reached (E : ℕ → ℕ) (s : Store) (cs : List Asked) (rs : List Said) (st : Standing) (ds : List (Option Draft)) : Type 0 where
   pub at : History
   pub run : Run E (set_up s) cs rs at

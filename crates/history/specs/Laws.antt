@@ -4,7 +4,7 @@
 -- input l u: the cipher input behind a use: a constant, or a counter of the seal's nonce.
 -- mask_value, block_value: the mask of a keystream block's frame, and the block.
 -- Law E l: what holds of the begun seals l of a history, under a cipher that means E.
--- Histories E s cs rs: of the calls cs, answered rs, from set_up over the store s on.
+-- Histories E s cs rs: of the calls cs, answered rs, from set-up over the store s on.
 use Rattle.std.specs.Prelude.{◌≡◌, ℕ, ◌+◌, ◌/◌, ◌^◌, ◌<◌, ◌≤◌, List, map, length, take, drop, Ok, ◌≢◌, slice_index, slice_index_or}
 use Rattle.checks.specs.Checks.{check_answer, read_out}
 use Rattle.keystream.specs.Counters.{counter, const0, mask_counter, block_counter, mask, block_at}
@@ -67,7 +67,7 @@ pub record Law (E : ℕ → ℕ) (l : List Seal) : Type 0 where
       let s = slice_index_or l n d in o + length out ≤ length s.message
       → read_out E s.nonce s.ciphertext o out ≡ take (length out) (drop o s.message)
 
--- there is a run from set_up on with these calls and answers, of every such run the law holds, and the nonces end as they should
+-- there is a run from set-up on with these calls and answers, of every such run the law holds, and the nonces end as they should
 pub record Histories (E : ℕ → ℕ) (s : Store) (cs : List Asked) (rs : List Said) : Type 0 where
   pub end : History
   pub run : Run E (set_up s) cs rs end

@@ -1,4 +1,4 @@
--- Histories of a sealer: lists of calls from set_up on, each finding what the one before left, and how each is answered. Assumes
+-- Histories of a sealer: lists of calls from set-up on, each finding what the one before left, and how each is answered. Assumes
 -- nothing.
 -- Asked, Said: a call as it is asked, and an answer as it is told.
 -- Seal: a begun seal, also one whose draft was left.

@@ -197,7 +197,7 @@ fn buffers(heap: Global, calls: &[Call<'_>]) -> Result<Vec<Option<Vec<u8>>>, All
 
 // Sets a sealer up over the cipher and the store, and gives it the calls one after another. Memory is taken before the first call, so
 // that either all calls are given or none. The contract is the theorem on every history: the answers are those of a run from
-// set_up on, and of every run with these calls and answers the law holds.
+// set-up on, and of every run with these calls and answers the law holds.
 pub fn replay<C: BlockCipher + Drop, S: MarkStore + Drop>(
     heap: Global,
     cipher: C,

@@ -1,4 +1,4 @@
-// Histories: lists of calls replayed on a sealer, from set_up on. The theorem on every history is the contract of `replay`.
+// Histories: lists of calls replayed on a sealer, from set-up on. The theorem on every history is the contract of `replay`.
 #![tactic(auto)]
 
 use chm::draft::Sealed;
