@@ -16,8 +16,8 @@ returns g c =
       header = c.requires.header;
       message = c.requires.message;
       room = c.requires.room;
-      header_bytes = all_bytes h (λ i l. omega (arith, c.type-inv.header i));
-      message_bytes = all_bytes m (λ i l. omega (arith, c.type-inv.message i));
+      header_bytes = all_bytes h (λ i l. omega (arith, c.type_inv.header i));
+      message_bytes = all_bytes m (λ i l. omega (arith, c.type_inv.message i));
     }
     c.requires.begun c.head.ensures.after c.body.ensures.after c.finish.ensures.value c.body.ensures.wrote in
     record { nonce = k.nonce; tag = k.tag_is; wrote = k.wrote_is }

@@ -5,7 +5,7 @@ use Rattle.sheetreader.proofs.Answered.{answer_fault, answer_next}
 use Rattle.sheetreader.proofs.Steps.{ends, goes, stops_feed, stops_other, last-feed, last_other}
 use Rattle.sheetreader.proofs.line.read_line.Goals as goal
 use Rattle.sheetreader.proofs.line.read_line.Goals.{then-count-text-via-then-count-text}
-use Rattle.sheetreader.proofs.line.read_line.Goals.{then-count-text-via-else-count-text+then-text-at-ne-LINE-FEED}
+use Rattle.sheetreader.proofs.line.read_line.Goals.{then-count-text-via-else-count-text+then-text-at-ne-LINE_FEED}
 
 pub returns-then-i-text : goal.returns-then-i-text
 returns-then-i-text c =
@@ -65,7 +65,7 @@ returns-then-count-text c =
       answer = answer_fault (fault_in a.line 1 a.count (drop a.at a.text.now)) (a.at + a.count + 1) _ (all
           ∙ elim c.then-count-text.branch [
             | then-count-text-via-then-count-text w ↦ ends a.line (a.count + 1) 0 (a.at + a.count) a.text.now (omega arith)
-            | then-count-text-via-else-count-text+then-text-at-ne-LINE-FEED w ↦
+            | then-count-text-via-else-count-text+then-text-at-ne-LINE_FEED w ↦
                 last_other a.line (a.count + 1) (a.at + a.count) a.text.now (omega arith) w.if-text-at-ne-LINE_FEED.true
           ]);
       within = tt;
