@@ -24,8 +24,8 @@ returns-in-Ok g c =
     let header = c.deref.result.now in
     let message = c.deref-in-Ok.result.now in
     let answer = c.in-Ok.ensures.answer in
-    let hs : length first ≡ header_limit = search rules in
-    let ms : length second ≡ message_limit = search rules in
+    let hs : length first ≡ header_limit = c.deref_mut.ensures.len ∙ c.in_ok-header.ensures.len in
+    let ms : length second ≡ message_limit = c.deref_mut-2.ensures.len ∙ c.in_ok-message.ensures.len in
     let l = long E text (length first) (length second) f answer in
     let kept : length c.open.new.header ≡ c.in_ok-header.header.len = search rules in
     let kept-2 : length c.open.new.message ≡ c.in_ok-message.message.len = search rules in
@@ -45,7 +45,7 @@ returns g c =
     let fault = c.in-Err.fault in
     let first = c.deref_mut.result.now in
     let second = c.deref_mut-2.result.now in
-    let hs : length first ≡ header_limit = search rules in
-    let ms : length second ≡ message_limit = search rules in
+    let hs : length first ≡ header_limit = c.deref_mut.ensures.len ∙ c.in_ok-header.ensures.len in
+    let ms : length second ≡ message_limit = c.deref_mut-2.ensures.len ∙ c.in_ok-message.ensures.len in
     told_as c.refused_open.result (refused_text (open_told fault)) (opened_text E text)
     (answer_text E text (length first) (length second) (Err (open_told fault)) hs ms c.in-Err.ensures.answer) c.refused_open.ensures
