@@ -1,5 +1,5 @@
 -- Bytes as a number and back: each way undoes the other. Assumes nothing.
-use Rattle.std.proofs.Common.{◌≡◌, ℕ, zero, suc, ◌+◌, ◌*◌, ◌/◌, ◌%◌, ◌^◌, ◌<◌, ◌≤◌, List, [], ◌∷◌, length, get_or, sym, refl, ap, ◌∙◌, subst, add-zero, add_assoc, mul-le-mul_right, mod-eq_of_lt, mul_assoc, mul_comm, add-mul, zero-add, zero-mul, mul-one, arith, pow_pos}
+use Rattle.std.proofs.Common.{◌≡◌, ℕ, zero, suc, ◌+◌, ◌*◌, ◌/◌, ◌%◌, ◌^◌, ◌<◌, ◌≤◌, List, [], ◌∷◌, length, get_or, sym, refl, ap, ◌∙◌, add-zero, add_assoc, mul-le-mul_right, mod-eq_of_lt, mul_assoc, add-mul, zero-add, zero-mul, mul-one, arith}
 use native.Mathlib.Nat.{mod-one, pow-zero, pow-succ'}
 use lib.Arith.{mod-mul}
 use Rattle.blocks.specs.Blocks.{number, number_from, bytes_of, AllBytes}

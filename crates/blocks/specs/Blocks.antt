@@ -2,7 +2,7 @@
 -- number xs: the number that the bytes xs are.
 -- bytes_of n x: the n lowest bytes of x.
 -- AllBytes xs: each member of xs is a byte.
-use Rattle.std.specs.Prelude.{◌≡◌, ℕ, zero, suc, ◌+◌, ◌*◌, ◌/◌, ◌%◌, ◌^◌, ◌<◌, List, [], ◌∷◌, refl}
+use Rattle.std.specs.Prelude.{ℕ, zero, suc, ◌+◌, ◌*◌, ◌/◌, ◌%◌, ◌^◌, ◌<◌, List, [], ◌∷◌}
 
 -- the number n, and then the bytes xs
 unfoldable pub number_from : ℕ → List ℕ → ℕ

@@ -8,7 +8,7 @@ use Rattle.blocks.specs.Blocks.{bytes_of}
 use Rattle.keystream.specs.Counters.{block_at, const0, const1}
 use Rattle.method.proofs.Closed.{tag_is}
 use Rattle.method.specs.Limits.{header_limit, message_limit, tag_differs}
-use Rattle.method.specs.Published.{crypt, tag, tag_block, decryption}
+use Rattle.method.specs.Published.{crypt, tag_block}
 use Rattle.polyhash.specs.Hash.{hash}
 use Rattle.refusals.specs.Answers.{Answer}
 use Rattle.checks.specs.Checks.{not_rejected, check_answer}

@@ -1,5 +1,5 @@
 -- A seal in one call: what its sizes and its begin answer decide. Assumes nothing.
-use Rattle.std.proofs.Common.{◌≡◌, ℕ, ◌+◌, ◌≤◌, Bool, true, false, cond, ◌&&◌, eqb, leb, List, [], length, Ok, Err, sym, refl, ap, ◌∙◌, subst, arith, eq-eqb, le-leb, leb-true}
+use Rattle.std.proofs.Common.{◌≡◌, ℕ, ◌+◌, ◌≤◌, Bool, true, false, cond, eqb, leb, List, [], length, Ok, Err, sym, refl, ap, ◌∙◌, arith, eq-eqb, le-leb, leb-true}
 use Rattle.std.proofs.lemmas.Bool.{eqb-true}
 use Rattle.keystream.specs.Counters.{ciphered}
 use Rattle.method.specs.Limits.{header_limit, message_limit, tag_fits, header_too_long, message_too_long, lengths_differ, bad_tag_length}
@@ -7,7 +7,7 @@ use Rattle.refusals.specs.Answers.{Told, Answer}
 use Rattle.chm.proofs.Helds.{held_len, sent-held}
 use Rattle.chm.proofs.Pieces.{draft_laws}
 use Rattle.chm.specs.Drafts.{words_of, headed, bodied, body_out, body_answer, sealed, if_accepted}
-use Rattle.chm.specs.Sealers.{Standing, drafted, begin_answer, begun, issue_answer, sealer_down}
+use Rattle.chm.specs.Sealers.{Standing, drafted, begin_answer, issue_answer, sealer_down}
 use Rattle.chm.specs.Seals.{sizes_answer, if_sized, sealed_under, seal_answer, ciphered_under, seal_out}
 use Rattle.chm.specs.Words.{sent, held}
 use Rattle.chm.specs.declared.draft.Draft.{Draft}

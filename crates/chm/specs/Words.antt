@@ -4,7 +4,7 @@
 -- steps E N w k: the words after k more bytes.
 -- sent E N w p: what the bytes p are xored to from the words w on.
 -- held E N m: the words after m bytes of message.
-use Rattle.std.specs.Prelude.{ℕ, zero, suc, ◌+◌, ◌-◌, ◌/◌, ◌%◌, Bool, cond, ◌||◌, List, map, length, ◌==◌, bit_xor, slice_index}
+use Rattle.std.specs.Prelude.{ℕ, zero, suc, ◌+◌, ◌-◌, ◌/◌, ◌%◌, cond, ◌||◌, List, map, length, ◌==◌, bit_xor, slice_index}
 use Rattle.std.specs.List.{range_with_len}
 use Rattle.blocks.specs.Blocks.{bytes_of}
 use Rattle.keystream.specs.Counters.{counter, mask, block_counter, block_at}

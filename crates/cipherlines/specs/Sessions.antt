@@ -2,7 +2,7 @@
 -- State: where a session stands.
 -- reply_to s line, next_state s line: what the session answers to a line, and where it then stands. A line that is bad or
 -- refused leaves it where it was.
-use Rattle.std.specs.Prelude.{ℕ, Bool, cond, List, length, Some, None, Option, ◌==◌}
+use Rattle.std.specs.Prelude.{ℕ, cond, List, length, Some, None, Option, ◌==◌}
 use Rattle.ciphers.specs.declared.fault.KeyFault.TheVariants.{WrongLength}
 use Rattle.digits.specs.Digits.{digits_bytes, number_of}
 use Rattle.cipherlines.specs.Chosen.{name_of, key_bytes, standard_of, chosen_image}

@@ -1,8 +1,6 @@
-ghost use Rattle.std.specs.Prelude.{◌≡◌, ◌%◌, ◌^◌};
+ghost use Rattle.std.specs.Prelude.{◌≡◌};
 ghost use Rattle.ciphers.specs.Practices.{practice, xor_image};
-ghost use Rattle.std.proofs.Common.{arith};
-ghost use Rattle.std.proofs.lemmas.Nat.{xor_lt};
-ghost use Rattle.blocks.proofs.Xors.{xor_apart};
+ghost use Rattle.ciphers.specs.Practiced.{xor_image-block, xor_image-apart};
 
 use crate::cipher::BlockCipher;
 use crate::fault::KeyFault;
@@ -26,9 +24,9 @@ impl BlockCipher for Practice {
 
     ghost standard = { practice };
 
-    ghost block = { λ c b h. xor_lt 128 b (c.key % 2 ^ 128) h (omega arith) };
+    ghost block = { λ c b h. xor_image-block c.key b h };
 
-    ghost apart = { λ c a b ha hb e. xor_apart a b (c.key % 2 ^ 128) e };
+    ghost apart = { λ c a b ha hb e. xor_image-apart c.key a b e };
 
     fn with_zero_key() -> Practice {
         Practice { key: 0 }

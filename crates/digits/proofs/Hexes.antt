@@ -1,10 +1,9 @@
 -- Bytes as digits and back: lengths, places, and that each way undoes the other. Assumes nothing.
-use Rattle.std.proofs.Common.{◌≡◌, ℕ, zero, suc, ◌+◌, ◌*◌, ◌/◌, ◌%◌, ◌<◌, ◌≤◌, min, Bool, true, List, [], ◌∷◌, ◌++◌, length, get_or, take, drop, set, sym, refl, ap, ◌∙◌, inl, inr, append_assoc, arith, rules}
+use Rattle.std.proofs.Common.{◌≡◌, ℕ, zero, suc, ◌+◌, ◌*◌, ◌/◌, ◌%◌, ◌<◌, min, true, List, [], ◌∷◌, ◌++◌, length, get_or, take, drop, set, sym, refl, ap, ◌∙◌, inl, inr, append_assoc, arith, rules}
 use Rattle.std.proofs.lemmas.List.{set_at, take_more, drop_more, take_all, drop_all, append-nil, length-take-le}
 use Rattle.std.proofs.lemmas.Bool.{cases_lt}
 use Rattle.std.proofs.lemmas.Bool.Decides.{nat_tests}
 use Rattle.blocks.specs.Blocks.{AllBytes}
-use Rattle.digits.specs.Digits.{value_of}
 use Rattle.digits.specs.Hex.{digit, hex, is_digit, value, unhex, decoded}
 
 pub value-small : (c : ℕ) → value c < 16

@@ -3,7 +3,7 @@
 -- digits_number cs: the number that the text cs is, where each character is a digit.
 -- digits_bytes cs: the bytes that the text cs is, where it is digits and their number is even.
 -- number_of n cs: the number that a text of n digits is, of 32 at the most.
-use Rattle.std.specs.Prelude.{ℕ, ◌+◌, ◌-◌, ◌*◌, Bool, cond, ◌&&◌, List, [], ◌∷◌, length, Some, None, Option, ◌==◌, nat_le}
+use Rattle.std.specs.Prelude.{ℕ, ◌+◌, ◌-◌, ◌*◌, cond, ◌&&◌, List, [], ◌∷◌, length, Some, None, Option, ◌==◌, nat_le}
 
 abbrev pub value_of : ℕ → Option ℕ
 value_of c = cond (nat_le 48 c && nat_le c 57) (Some (c - 48)) (cond (nat_le 97 c && nat_le c 102) (Some (c - 87)) None)

@@ -5,18 +5,18 @@ use Rattle.std.proofs.lemmas.Bool.{eqb-true, eqb-false, ltb-true, ltb-false, and
 use Rattle.blocks.specs.Blocks.{AllBytes}
 use Rattle.chm.proofs.Helds.{held_len}
 use Rattle.chm.proofs.Pieces.{draft_laws}
-use Rattle.chm.specs.Drafts.{words_of, headed, bodied, sealed, if_accepted}
+use Rattle.chm.specs.Drafts.{words_of, headed, bodied}
 use Rattle.chm.specs.Sealers.{Standing, standing, batch, sealer_down, begin_answer, begun, issue_answer, issued, drafted, raise_nonce, restarted_sealer}
 use Rattle.chm.specs.Words.{sent, held}
 use Rattle.chm.specs.declared.batch.Batch.{Batch}
 use Rattle.chm.specs.declared.draft.Draft.{Draft}
 use Rattle.method.specs.Limits.{header_limit, message_limit, tag_fits, header_too_long, message_too_long, lengths_differ, bad_tag_length}
-use Rattle.method.specs.Published.{crypt, tag}
+use Rattle.method.specs.Published.{tag}
 use Rattle.refusals.specs.Answers.{Answer}
-use Rattle.stores.specs.Store.{Store, full, power_failed, raise_answer, raised, restarted}
+use Rattle.stores.specs.Store.{Store, full, power_failed, raise_answer, raised}
 use Rattle.history.proofs.Soundness.{fine-at, nonce_low}
-use Rattle.history.specs.Held.{slot, Held, Fine, Sound, Next, Answered}
-use Rattle.history.specs.Runs.{Asked, begin, head, body, finish, restart, Said, refused, taken, wrote, finished, restarted_so, Seal, seal, History, history, Spent, Is, Closed, Tag, Answers, tag_refused, down_refused, next_of_batch, first_of_batch, full_refused, power_refused, head_taken, head_refused, head_none, body_wrote, body_unlike, body_long, body_none, sealed_up, finish_none, restarts}
+use Rattle.history.specs.Held.{slot, Fine, Sound, Next, Answered}
+use Rattle.history.specs.Runs.{Asked, begin, head, body, finish, restart, Said, taken, wrote, finished, restarted_so, Seal, seal, History, history, Spent, Is, Closed, Tag, Answers, tag_refused, down_refused, next_of_batch, first_of_batch, full_refused, power_refused, head_taken, head_refused, head_none, body_wrote, body_unlike, body_long, body_none, sealed_up, finish_none, restarts}
 use Rattle.history.specs.Slots.{begin_said, new_slot, done_said, head_said, head_slot, body_said, body_slot, finish_said}
 
 -- begin: the answer b, and what is then the case, s

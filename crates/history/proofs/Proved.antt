@@ -1,13 +1,13 @@
 -- The law on the begun seals of a sound history, over a cipher whose images differ. Assumes nothing.
-use Rattle.std.proofs.Common.{◌≡◌, ℕ, zero, suc, ◌+◌, ◌*◌, ◌/◌, ◌%◌, ◌^◌, ◌<◌, ◌≤◌, false, List, [], map, length, get_or, take, drop, Ok, sym, refl, ap, ◌∙◌, subst, mod-lt, arith}
+use Rattle.std.proofs.Common.{◌≡◌, ℕ, ◌+◌, ◌*◌, ◌/◌, ◌%◌, ◌^◌, ◌<◌, ◌≤◌, false, List, [], map, length, get_or, take, drop, Ok, sym, refl, ap, ◌∙◌, mod-lt, arith}
 use native.Mathlib.Nat.{div-add-mod}
 use lib.Bits.{bit_xor, xor_zero_l}
 use Rattle.std.proofs.lemmas.List.{get_or-map, get_or_default}
 use Rattle.blocks.proofs.Xors.{xor_twice, xor_apart}
 use Rattle.checks.proofs.Proved.{check_laws}
 use Rattle.checks.specs.Checks.{check_answer, read_out}
-use Rattle.keystream.specs.Counters.{counter, const0, mask_counter, block_counter, mask, block_at}
-use Rattle.method.specs.Published.{crypt, tag}
+use Rattle.keystream.specs.Counters.{counter, block_counter, mask, block_at}
+use Rattle.method.specs.Published.{tag}
 use Rattle.history.proofs.Holes.{places}
 use Rattle.history.proofs.Soundness.{Apart, sound_apart, nonce_low}
 use Rattle.history.specs.Held.{Fine, Sound}

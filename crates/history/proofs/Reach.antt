@@ -1,5 +1,5 @@
 -- A loop over the calls, and the run that it makes. Assumes nothing.
-use Rattle.std.proofs.Common.{◌≡◌, ℕ, ◌^◌, ◌<◌, true, List, [], ◌∷◌, ◌++◌, None, Option, sym, refl, ap, ◌∙◌}
+use Rattle.std.proofs.Common.{◌≡◌, ℕ, ◌^◌, ◌<◌, true, List, [], ◌∷◌, ◌++◌, None, Option}
 use Rattle.chm.specs.Sealers.{Standing, standing}
 use Rattle.chm.specs.declared.draft.Draft.{Draft}
 use Rattle.stores.specs.Store.{Store, Lawful}

@@ -5,7 +5,6 @@ use Rattle.std.proofs.lemmas.List.{map_push, map-set, set-get_or, length_push, l
 use Rattle.std.proofs.lemmas.Bool.{cases_lt, cases_order}
 use Rattle.chm.specs.Sealers.{Standing, standing, batch}
 use Rattle.chm.specs.declared.batch.Batch.{Batch}
-use Rattle.method.specs.Limits.{header_limit, message_limit}
 use Rattle.method.specs.Published.{crypt}
 use Rattle.polyhash.proofs.Chains.{bytes_append}
 use Rattle.stores.proofs.Raises.{raised-lawful, restarted-lawful, raised_grows, raised-taken}

@@ -3,7 +3,7 @@
 -- Held E h s ds: a sealer that stands so, and these places, hold the history h.
 -- Sound E h: what is true of every history from set-up on.
 -- Answered: a call that finds a sealer and places leaves others, whatever sound history they hold.
-use Rattle.std.specs.Prelude.{◌≡◌, ℕ, ◌+◌, ◌*◌, ◌^◌, ◌<◌, ◌≤◌, cond, List, map, length, Some, None, Option, slice_index, slice_index_or}
+use Rattle.std.specs.Prelude.{◌≡◌, ℕ, ◌+◌, ◌*◌, ◌<◌, ◌≤◌, cond, List, map, length, Some, None, Option, slice_index, slice_index_or}
 use Rattle.blocks.specs.Blocks.{AllBytes}
 use Rattle.chm.specs.Drafts.{words_of}
 use Rattle.chm.specs.Sealers.{Standing, batch_nonces}

@@ -1,5 +1,5 @@
 -- The drafts that a caller keeps, by number: what a call on one of them answers, and what it makes of its place. Assumes nothing.
-use Rattle.std.specs.Prelude.{◌≡◌, ℕ, List, [], ◌∷◌, length, Some, None, Ok, Err, vec_len, Option, Vec}
+use Rattle.std.specs.Prelude.{◌≡◌, ℕ, List, [], ◌∷◌, Some, None, Ok, Err, vec_len, Option, Vec}
 use Rattle.std.specs.declared.alloc.Global.{Global}
 use Rattle.chm.specs.Drafts.{head_answer, headed, body_answer, bodied, sealed}
 use Rattle.chm.specs.Words.{sent}

@@ -1,5 +1,5 @@
 -- A text of digits only, and one with another character. Assumes nothing.
-use Rattle.std.proofs.Common.{◌≡◌, ℕ, zero, suc, ◌+◌, ◌*◌, ◌%◌, ◌<◌, true, false, List, [], ◌∷◌, length, get_or, is_some, Some, None, Option, unwrap_or, sym, refl, ap, ◌∙◌, arith}
+use Rattle.std.proofs.Common.{◌≡◌, ℕ, zero, suc, ◌+◌, ◌*◌, ◌%◌, ◌<◌, true, false, List, [], ◌∷◌, length, get_or, is_some, Some, None, Option, unwrap_or, refl, ap, ◌∙◌, arith}
 use Rattle.digits.specs.Digits.{value_of, then_digit, byte_before, digits_bytes}
 use Rattle.digits.specs.Hex.{is_digit, unhex}
 

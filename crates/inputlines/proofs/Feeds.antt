@@ -1,6 +1,6 @@
 -- A text with its first line feed in sight, and one without a line feed. Assumes nothing.
 use Rattle.std.proofs.Common.{◌≡◌, ℕ, zero, suc, ◌+◌, ◌<◌, List, [], ◌∷◌, length, get_or, take, drop, Some, None, refl, add-one, arith, eq-eqb, ne_eqb}
-use Rattle.inputlines.specs.Lines.{feed, longer, parted_line}
+use Rattle.inputlines.specs.Lines.{feed, parted_line}
 
 -- no line feed among the first n
 abbrev pub Feedless : ℕ → List ℕ → Type 0

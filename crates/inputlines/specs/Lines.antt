@@ -1,7 +1,7 @@
 -- A text cut at its first line feed, and what the line before it tells. Assumes nothing.
 -- parted_line cs: what stands before the first line feed of the text cs, and what stands behind it.
 -- line_as f cs: what f makes of the first line of cs, and what stands behind that line.
-use Rattle.std.specs.Prelude.{ℕ, Bool, cond, List, [], ◌∷◌, Some, None, Option, ◌==◌}
+use Rattle.std.specs.Prelude.{ℕ, cond, List, [], ◌∷◌, Some, None, Option, ◌==◌}
 
 -- a line feed
 abbrev pub feed : ℕ

@@ -1,7 +1,6 @@
 -- What a call answers: its value, or a refusal. Assumes nothing.
 -- Told: what a refusal tells.
 -- Answer A: the value of an accepted call, or what the refusal tells.
--- if_accepted r x y: x where r is accepted, and y where it is refused.
 -- answered told r: the answer that a result is, where `told` says what each fault tells.
 use Rattle.std.specs.Prelude.{ℕ, List, Ok, Err, Result}
 
@@ -15,8 +14,3 @@ Answer A = Result A Told
 abbrev pub answered : {A E : Type 0} → (E → Told) → Result A E → Answer A
 answered told (Ok a) = Ok a
 answered told (Err e) = Err (told e)
-
--- what is left where a call was accepted, and where it was refused
-abbrev pub if_accepted : {X : Type 0} → Answer (Unit {0}) → X → X → X
-if_accepted (Ok u) x y = x
-if_accepted (Err e) x y = y

@@ -1,5 +1,5 @@
 -- What a last line is told as, by the length of its message and by what stands behind it. Assumes nothing.
-use Rattle.std.proofs.Common.{◌≡◌, ℕ, ◌<◌, ◌≤◌, cond, List, [], ◌∷◌, length, Some, Ok, Err, refl, ap, ◌∙◌, arith, le-leb}
+use Rattle.std.proofs.Common.{◌≡◌, ℕ, ◌<◌, ◌≤◌, cond, List, [], ◌∷◌, length, Some, Ok, Err, refl, ap, arith, le-leb}
 use borrow.Author.Tests.{lt-leb}
 use Rattle.sealtext.specs.Inputs.{longest_message, at_end, at_message}
 

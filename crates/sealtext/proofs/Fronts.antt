@@ -1,7 +1,7 @@
 -- A buffer whose front is written byte by byte. Assumes nothing.
 use Rattle.std.proofs.Common.{◌≡◌, ℕ, ◌+◌, ◌/◌, ◌%◌, ◌^◌, ◌<◌, ◌≤◌, List, [], ◌∷◌, ◌++◌, length, get_or, drop, set, decimal, sym, refl, ap, ◌∙◌, append_assoc, arith}
 use Rattle.std.proofs.lemmas.Fmt.{decimal_digit, decimal_step}
-use Rattle.std.proofs.lemmas.List.{length_push, length-append, drop_more, set_at}
+use Rattle.std.proofs.lemmas.List.{length_push, drop_more, set_at}
 use Rattle.inputlines.specs.Lines.{feed}
 use Rattle.sealtext.specs.Texts.{told_line, on_front}
 

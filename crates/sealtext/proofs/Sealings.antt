@@ -1,5 +1,5 @@
 -- A new draft that is fed a header and a message and finished, in terms of the published method. Assumes nothing.
-use Rattle.std.proofs.Common.{◌≡◌, ℕ, ◌^◌, ◌<◌, ◌≤◌, List, [], ◌++◌, length, sym, refl, ap, ◌∙◌, arith}
+use Rattle.std.proofs.Common.{◌≡◌, ℕ, ◌^◌, ◌<◌, ◌≤◌, List, [], length, sym, ap, ◌∙◌, arith}
 use Rattle.std.proofs.lemmas.List.{append-nil}
 use Rattle.blocks.specs.Blocks.{AllBytes}
 use Rattle.method.proofs.Closed.{crypt_is}

@@ -1,7 +1,7 @@
 -- The lines of a sheet that an input is sealed to fit the output, so that writing them is not refused. Assumes nothing.
-use Rattle.std.proofs.Common.{◌≡◌, ℕ, ◌+◌, ◌*◌, ◌^◌, ◌<◌, ◌≤◌, List, ◌++◌, length, drop, Ok, Err, Result, sym, refl, ap, ◌∙◌, arith}
+use Rattle.std.proofs.Common.{◌≡◌, ℕ, ◌*◌, ◌^◌, ◌<◌, ◌≤◌, List, ◌++◌, length, drop, Ok, Err, Result, ap, ◌∙◌, arith}
 use Rattle.std.specs.Result.{result_unwrap_or}
-use Rattle.refusals.specs.Answers.{Answer, answered}
+use Rattle.refusals.specs.Answers.{answered}
 use Rattle.method.proofs.Undone.{length-crypt, length-tag}
 use Rattle.method.specs.Limits.{header_limit}
 use Rattle.method.specs.Published.{crypt, tag}

@@ -5,7 +5,7 @@
 -- sheet_lines E h m N: the lines of the sheet of header h and message m under the nonce N, with a tag of sixteen bytes.
 -- lines_answer n standard i: what the input i is answered with under a cipher with keys of n bytes.
 -- seal_input i: the same under the cipher that the input names.
-use Rattle.std.specs.Prelude.{ℕ, ◌-◌, ◌^◌, min, Bool, true, cond, List, length, None, Ok, Err, ◌==◌, nat_le}
+use Rattle.std.specs.Prelude.{ℕ, ◌-◌, ◌^◌, min, true, cond, List, length, None, Ok, Err, ◌==◌, nat_le}
 use Rattle.refusals.specs.Answers.{Told, Answer}
 use Rattle.ciphers.specs.Keys.{key_told, wrong_length}
 use Rattle.method.specs.Limits.{header_limit, header_too_long}

@@ -1,6 +1,6 @@
 -- A text with its first space in sight, and one without a space. Assumes nothing.
-use Rattle.std.proofs.Common.{◌≡◌, ℕ, zero, suc, ◌<◌, List, [], ◌∷◌, ◌++◌, length, get_or, Some, None, sym, refl, ap, ◌∙◌, arith, ne_eqb}
-use Rattle.words.specs.Splits.{longer, parted}
+use Rattle.std.proofs.Common.{◌≡◌, ℕ, suc, ◌<◌, List, [], ◌∷◌, ◌++◌, length, get_or, Some, None, refl, arith, ne_eqb}
+use Rattle.words.specs.Splits.{parted}
 
 abbrev pub Spaceless : List ℕ → Type 0
 Spaceless cs = (i : ℕ) → i < length cs → get_or cs i 0 ≡ 32 → ⊥

@@ -1,5 +1,5 @@
 -- A text in two at its first space. Assumes nothing.
-use Rattle.std.specs.Prelude.{ℕ, Bool, cond, List, [], ◌∷◌, Some, None, Option, ◌==◌}
+use Rattle.std.specs.Prelude.{ℕ, cond, List, [], ◌∷◌, Some, None, Option, ◌==◌}
 
 abbrev pub Parts : Type 0
 Parts = Option (List ℕ × List ℕ)

@@ -2,7 +2,7 @@
 -- a hash that is fed piece by piece. Assumes nothing.
 -- State: what the session holds.
 -- reply_to s line, next_state s line: what it answers to a line, and what it then holds. A bad or refused line changes nothing.
-use Rattle.std.specs.Prelude.{ℕ, ◌^◌, Bool, cond, ◌&&◌, List, [], length, Some, None, codes, Option, ◌==◌, nat_lt}
+use Rattle.std.specs.Prelude.{ℕ, ◌^◌, cond, List, length, Some, None, codes, Option, ◌==◌, nat_lt}
 use Rattle.std.specs.Option.{option_map}
 use Rattle.std.specs.Str.{bytes_eq}
 use Rattle.cipherlines.specs.Chosen.{name_of, key_bytes, standard_of, chosen_image}

@@ -1,4 +1,4 @@
-use Rattle.std.proofs.Common.{◌≡◌, ◌<◌, length, get_or, sym, ap, ◌∙◌, rules}
+use Rattle.std.proofs.Common.{◌≡◌, length, sym, ap, ◌∙◌, rules}
 use Rattle.blocks.specs.Blocks.{number, bytes_of}
 use Rattle.blocks.proofs.Numbers.{all_bytes, bytes_of-number}
 use Rattle.blocks.proofs.Spelt.{number_16}

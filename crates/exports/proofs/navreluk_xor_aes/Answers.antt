@@ -1,5 +1,5 @@
 -- A cipher that was made is the standard's of the key, and the key has its length.
-use Rattle.std.proofs.Common.{◌≡◌, ℕ, Bool, true, false, cond, eqb, length, Ok, Err, Result, refl, ap, ◌∙◌, arith}
+use Rattle.std.proofs.Common.{◌≡◌, ℕ, Bool, true, false, cond, eqb, length, Ok, Err, refl, ap, ◌∙◌, arith}
 use Rattle.aes.specs.Cipher.{aes_128}
 use Rattle.aes.specs.Keyed.{keys_image}
 use Rattle.ciphers.specs.Keys.{wrong_length}

@@ -1,5 +1,5 @@
 -- The figures are computed.
-use Rattle.std.proofs.Common.{refl, rules}
+use Rattle.std.proofs.Common.{refl}
 use Rattle.figures.proofs.Worked.{figures}
 use Rattle.figures.proofs.worked_example.Goals as goal
 

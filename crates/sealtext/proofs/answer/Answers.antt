@@ -1,5 +1,5 @@
 -- A bad line is told, a refusal is told, or the lines stand there.
-use Rattle.std.proofs.Common.{◌≡◌, ℕ, codes}
+use Rattle.std.proofs.Common.{codes}
 use Rattle.sealtext.proofs.Answered.{bad_text, fronted, lines_fronted, refusal_fronted}
 use Rattle.sealtext.specs.Inputs.{lines_told}
 use Rattle.sealtext.specs.Seals.{fault_told}

@@ -1,7 +1,7 @@
 use mathlib.Core.Path.{◌≡◌}
 use Prim.Native.Nat.{ℕ, ◌<◌}
 use lib.ListN.{length, get_or}
-use Rattle.speck.specs.Rounds.{Schedule, schedule, round_key}
+use Rattle.speck.specs.Rounds.{schedule, round_key}
 use Rattle.speck.proofs.expand.Given as goal
 
 -- the keys so far, and the schedule's words at the round to come

@@ -1,5 +1,5 @@
 -- A turn reads two digits and puts one byte more at the buffer's front.
-use Rattle.std.proofs.Common.{◌≡◌, ℕ, ◌+◌, ◌/◌, ◌<◌, min, List, ◌++◌, length, take, drop, set, sym, ap, ◌∙◌, arith}
+use Rattle.std.proofs.Common.{ℕ, List, ◌++◌, take, drop, set, sym, ap, ◌∙◌, arith}
 use Rattle.digits.specs.Hex.{unhex}
 use Rattle.digits.proofs.Hexes.{length-unhex, unhex-at, front-more, front_all}
 use Rattle.digits.proofs.codec.decode.Goals as goal

@@ -1,5 +1,5 @@
 -- A tag buffer of another length than sixteen.
-use Rattle.std.proofs.Common.{◌≡◌, false, eqb, length, sym, arith}
+use Rattle.std.proofs.Common.{◌≡◌, false, eqb, length, sym}
 use Rattle.std.proofs.lemmas.Bool.{cond-false, ne_eqb}
 use Rattle.exports.proofs.sheets.navreluk_seal_at.Goals as goal
 

@@ -1,5 +1,5 @@
 -- The front of the local output is the text.
-use Rattle.std.proofs.Common.{◌≡◌, ℕ, ◌-◌, List, length, take, drop, ap, ◌∙◌, arith}
+use Rattle.std.proofs.Common.{◌≡◌, ℕ, ◌-◌, List, length, take, ap, ◌∙◌, arith}
 use Rattle.std.proofs.lemmas.List.{take_at}
 use Rattle.sealtext.specs.Texts.{sheetseal_text}
 use Rattle.exports.specs.Fronts.{fit_count, fit_front}

@@ -1,11 +1,11 @@
 -- Each arm is the answer of one call.
-use Rattle.std.proofs.Common.{◌≡◌, ℕ, List, ◌++◌, length, get_or, set, Some, None, vec_items, vec_len, Option, Vec, sym, refl, ap, ◌∙◌, subst, arith}
+use Rattle.std.proofs.Common.{◌≡◌, ℕ, List, length, get_or, set, Some, None, vec_items, vec_len, Option, Vec, sym, refl, ap, ◌∙◌, subst, arith}
 use Rattle.std.proofs.lemmas.List.{length-append, length-set}
 use Rattle.std.specs.declared.alloc.Global.{Global}
 use Rattle.chm.specs.Sealers.{sealer_standing, begin_answer}
 use Rattle.chm.specs.declared.draft.Draft.{Draft}
 use Rattle.history.proofs.Answered.{begin-answered, head-answered, body-answered, finish-answered, restart-answered, new_slot_le}
-use Rattle.history.specs.Runs.{Asked, asked, body}
+use Rattle.history.specs.Runs.{asked, body}
 use Rattle.history.specs.Slots.{new_slot, body_said, body_slot, RoomFor}
 use Rattle.history.proofs.calls.answer.Goals as goal
 

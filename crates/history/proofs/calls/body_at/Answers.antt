@@ -6,7 +6,7 @@ use Rattle.refusals.specs.Answers.{Answer}
 use Rattle.chm.specs.Drafts.{body_answer, bodied, body_out, if_accepted}
 use Rattle.chm.specs.Words.{sent}
 use Rattle.chm.specs.declared.draft.Draft.{Draft}
-use Rattle.history.specs.Runs.{Said, wrote}
+use Rattle.history.specs.Runs.{wrote}
 use Rattle.history.specs.Slots.{body_said, body_slot, done_said}
 use Rattle.history.proofs.calls.body_at.Goals as goal
 

@@ -1,5 +1,5 @@
 -- A buffer of zeros of the length that the body asks for.
-use Rattle.std.proofs.Common.{◌≡◌, Some, sym, refl, subst}
+use Rattle.std.proofs.Common.{Some, sym, refl, subst}
 use Rattle.history.specs.Runs.{asked}
 use Rattle.history.specs.Slots.{RoomFor}
 use Rattle.history.specs.declared.Call.{Call}

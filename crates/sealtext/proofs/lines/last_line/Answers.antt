@@ -1,5 +1,5 @@
 -- The line was read: its length and what stands behind it decide.
-use Rattle.std.proofs.Common.{◌≡◌, length, sym, ap, ◌∙◌, arith}
+use Rattle.std.proofs.Common.{length, sym, ap, ◌∙◌, arith}
 use Rattle.std.proofs.lemmas.Bool.{eqb-true, eqb-false}
 use Rattle.digits.proofs.Hexes.{length-unhex}
 use Rattle.digits.specs.Hex.{unhex}

@@ -1,6 +1,5 @@
 -- A key of more bytes than any cipher's is not of the cipher's length.
-use Rattle.std.proofs.Common.{◌≡◌, ℕ, cond, length, Ok, Err, sym, ap, arith, ne_eqb}
-use Rattle.refusals.specs.Answers.{Answer}
+use Rattle.std.proofs.Common.{cond, length, Ok, Err, sym, ap, arith, ne_eqb}
 use Rattle.ciphers.specs.Keys.{wrong_length}
 use Rattle.digits.proofs.Hexes.{length-unhex}
 use Rattle.digits.specs.Hex.{unhex}

@@ -1,8 +1,8 @@
 -- A turn absorbs one line more.
-use Rattle.std.proofs.Common.{◌≡◌, ◌+◌, ◌-◌, ◌*◌, List, length, take, drop, sym, ap, ◌∙◌, arith, lit<, lit≤, rules}
+use Rattle.std.proofs.Common.{◌≡◌, ◌+◌, ◌-◌, ◌*◌, length, take, drop, sym, ap, ◌∙◌, arith, lit<, lit≤, rules}
 use Rattle.std.proofs.lemmas.List.{places}
 use Rattle.digits.specs.Hex.{unhex}
-use Rattle.polyhash.specs.Running.{absorbed, started}
+use Rattle.polyhash.specs.Running.{absorbed}
 use Rattle.polyhash.specs.declared.running.Running.{Running}
 use Rattle.sheetlines.specs.Lines.{bytes_in}
 use Rattle.sheetlines.specs.Sheets.{frames_of, later_frame}

@@ -1,11 +1,10 @@
 -- Each refusal in its order, and what the buffers hold.
-use Rattle.std.proofs.Common.{◌≡◌, ℕ, ◌<◌, ◌≤◌, true, false, ltb, List, length, Ok, Err, Result, sym, refl, ap, ◌∙◌, arith}
+use Rattle.std.proofs.Common.{◌≡◌, ℕ, ◌<◌, ◌≤◌, ltb, List, length, Ok, Err, sym, refl, ap, ◌∙◌, arith}
 use Rattle.std.proofs.lemmas.Result.{err_from_is_err_and}
 use Rattle.std.proofs.lemmas.Bool.{cond-true, cond-false, lt-ltb, le-ltb}
 use Rattle.checks.specs.Checks.{check_answer}
 use Rattle.refusals.specs.Answers.{Answer}
 use Rattle.sheetlines.specs.Sheets.{sheet_answer, header_of, cipher_of, tag_of}
-use Rattle.sheetlines.specs.declared.fault.SheetFault.{SheetFault}
 use Rattle.sheetlines.specs.declared.fields.Fields.{Fields}
 use Rattle.sheetopener.proofs.Proved.{open_laws}
 use Rattle.sheetopener.specs.Opens.{if_checked, open_read, open_answer, header_buffer_small, message_buffer_small}
