@@ -1,8 +1,8 @@
 #!/usr/bin/env bash
 # What a client of the sealing crates cannot write. ci/client/lib.txt is a client crate that is proved; each edit beside it replaces a
 # text that stands there once, and names the error by which the compiler must refuse it, on the edited line and nowhere else.
-# A must-fail edit has to reach the prover, and these do not, so they are tried here, on a copy of the repository that takes over
-# what target/ has proved.
+# A must-fail edit has to reach the prover, and these do not, so they are tried here, on a copy of the repository, where a check begins
+# with what checks of the same crates kept on this machine.
 # A line for the client and for each edit; the last line is 'N passed, M failed', and it ends non-zero where anything failed.
 set -u -o pipefail
 cd "$(dirname "$0")/.."
@@ -10,20 +10,17 @@ passed=0
 failed=0
 copy=$(mktemp -d)
 trap 'rm -rf "$copy"' EXIT
-mkdir -p "$copy/target" "$copy/crates/client/src"
-cp -r crates.txt crates "$copy"
-for part in rlib stamp; do
-    if [ -d "target/$part" ]; then cp -r "target/$part" "$copy/target"; fi
-done
+tar -c --exclude=out crates.txt crates | tar -x -C "$copy"
+mkdir -p "$copy/crates/client/src"
 echo 'client: ciphers chm checks' >> "$copy/crates.txt"
 
 # answer: 'proved', or on which lines the compiler refuses the client in the copy, and by which errors
 answer() {
     local text
-    if text=$(cd "$copy" && rt check client 2>&1); then
+    if text=$(cd "$copy/crates/client" && rt check 2>&1); then
         echo proved
     else
-        sed -n -E 's|^.*crates/client/src/lib\.rt:([0-9]+):[0-9]+: error\[([^]]*)\].*|line \1: \2|p' <<< "$text" | sort -u
+        sed -n -E 's|^[^ ]*src/lib\.rt:([0-9]+):[0-9]+: error\[([^]]*)\].*|line \1: \2|p' <<< "$text" | sort -u
     fi
 }
 

@@ -5,14 +5,14 @@ set -u -o pipefail
 cd "$(dirname "$0")/.."
 out=target/rust
 mkdir -p "$out"
-kit=$(dirname "$(dirname "$(rt doc)")")
+kit=$(dirname "$(rt doc)")
 fail() { echo "FAILED: $1"; echo '0 passed, 1 failed'; exit 1; }
 
-rt staticlib exports > "$out/staticlib.log" 2>&1 || { tail -n 20 "$out/staticlib.log"; fail 'the static library is not built'; }
+bash ci/staticlib.sh || fail 'the static library is not built'
 rustc --edition 2024 -C opt-level=3 --crate-type rlib --crate-name reference rust/reference/src/lib.rs -o "$out/libreference.rlib" || fail 'the reference is not built'
 rustc --edition 2024 -C opt-level=3 --test --crate-name reference rust/reference/src/lib.rs -o "$out/reference_tests" || fail 'the tests of the reference are not built'
 rustc --edition 2024 -C opt-level=3 rust/compare/src/main.rs -o "$out/compare" --extern "reference=$out/libreference.rlib" \
-    -L target/staticlib -l static=exports -L "$kit/lib" -l static=rattle_c || fail 'the comparison is not built'
+    -L target/staticlib -l static=exports -L "$kit/c" -l static=libc_c || fail 'the comparison is not built'
 
 "$out/reference_tests" > "$out/tests.log" 2>&1 || { cat "$out/tests.log"; fail 'a test of the reference'; }
 line=$(grep -E '^test result: ok\. [0-9]+ passed' "$out/tests.log" | tail -n 1)

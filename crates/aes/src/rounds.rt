@@ -1,13 +1,13 @@
 // The rounds, one with each round key.
 ghost use Rattle.std.specs.Prelude.{◌≡◌};
-ghost use Rattle.aes.specs.Cipher.{round as round-of, final_round, cipher};
+ghost use Rattle.aes.specs.Cipher.{round as round_of, final_round, cipher};
 ghost use Rattle.aes.specs.Keyed.{held};
 
 use crate::RoundKey;
 use crate::state::{add_round_key, mix_columns, shift_rows, sub_bytes};
 
 fn round(k: [[u8; 4]; 4], s: [[u8; 4]; 4]) -> [[u8; 4]; 4]
-    ensures { result ≡ round-of k s }
+    ensures { result ≡ round_of k s }
 {
     add_round_key(k, mix_columns(shift_rows(sub_bytes(s))))
 }

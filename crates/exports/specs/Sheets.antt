@@ -1,9 +1,10 @@
 -- Sealing, checking and the keystream under a cipher that is named by a number. Assumes nothing.
 -- number_of r: 0 where a call was accepted, and else the refusal's number.
--- under c key f: f of the function that the key makes of the cipher c; 255 where there is no cipher, 7 where the key has another length.
--- check-number, seal-number: what is answered.
--- seal_out, tag-out: what the two buffers hold after a seal.
--- xor-out: what bytes are after they were xored with the keystream.
+-- keyed n standard key x f, under c key none bad f: f of the function that the key makes of a cipher, by its standard or its name; else x, `bad` where the
+-- key has another length and `none` where there is no cipher.
+-- checked N h c t E, xored N o bytes E: what is answered to a sheet; what bytes are after they were xored with the keystream.
+-- sealing a t h m room E: what a sealer answers that was just set up over a register at the mark a.
+-- seal_text a t h m out E, tag_or old r: what the two buffers hold after a seal.
 use Rattle.std.specs.Prelude.{ℕ, true, cond, List, length, Some, None, Ok, Err, Option, ◌==◌}
 use Rattle.checks.specs.Checks.{check_answer}
 use Rattle.chm.specs.Sealers.{standing}
