@@ -6,7 +6,7 @@ use lib.Bits.{bit_and, bit_or, or_shifted, and_mask}
 use lib.ListN.{get_or}
 use borrow.Author.Rules.{rules}
 use Rattle.speck.specs.Rounds.{Words, rounds, joined}
-use Rattle.speck.proofs.Speck128_256BlockCipher.image_of.Goals as goal
+use Rattle.speck.proofs.Speck128_256Permutation.image_of.Goals as goal
 
 joins : (a b : ℕ) (v : Words) → a ≡ v.0 → b ≡ v.1 → v.0 < 2 ^ 64 → v.1 < 2 ^ 64 → bit_or ((a * 2 ^ 64) % 2 ^ 128) b ≡ joined v
 joins a b v ea eb ha hb =

@@ -4,7 +4,7 @@ use Rattle.blocks.specs.Blocks.{number}
 use Rattle.aes.specs.Cipher.{cipher}
 use Rattle.aes.specs.Keyed.{held}
 use Rattle.aes.specs.State.{input, output}
-use Rattle.aes.proofs.Aes128BlockCipher.image_of.Goals as goal
+use Rattle.aes.proofs.Aes128Permutation.image_of.Goals as goal
 
 pub returns : goal.returns
 returns c =
