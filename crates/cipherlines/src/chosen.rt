@@ -3,9 +3,10 @@ ghost use Rattle.std.specs.Result.{result_ok};
 ghost use Rattle.refusals.specs.Answers.{answered};
 ghost use Rattle.ciphers.specs.Keys.{key_told, made_answer, meant};
 ghost use Rattle.cipherlines.specs.Chosen.{name_of, word_of, key_bytes, standard_of, chosen_image};
+ghost use Rattle.cipherlines.specs.Permutes.{image-block, image-apart};
 
 use aes::Aes128;
-use ciphers::cipher::BlockCipher;
+use ciphers::cipher::Permutation;
 use ciphers::fault::KeyFault;
 use ciphers::generic::under_key;
 use ciphers::practice::Practice;
@@ -93,15 +94,18 @@ impl Name {
     }
 }
 
-impl Chosen {
-    // The image of a block.
-    pub fn image_of(&self, block: u128) -> u128
-        ensures { result ≡ chosen_image self.now block }
-    {
+impl Permutation for Chosen {
+    ghost image = { chosen_image };
+
+    fn image_of(&self, block: u128) -> u128 {
         match self {
             Chosen::Practice(cipher) => cipher.image_of(block),
             Chosen::Aes(cipher) => cipher.image_of(block),
             Chosen::Speck(cipher) => cipher.image_of(block),
         }
     }
+
+    ghost block = { image-block };
+
+    ghost apart = { image-apart };
 }

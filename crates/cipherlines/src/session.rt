@@ -3,13 +3,14 @@ ghost use Rattle.cipherlines.specs.Sessions.{session_state, reply_to, next_state
 ghost use Rattle.cipherlines.specs.Chosen.{chosen_image};
 
 use crate::chosen::{Chosen, Name};
+use ciphers::cipher::Permutation;
 use ciphers::fault::KeyFault;
 use std::alloc::{AllocError, Global};
 
 const BLOCK_DIGITS: usize = 32;
 
 // What a line is answered with.
-#[derive(Clone, Copy)]
+#[derive(Clone, Copy, Debug, PartialEq, Eq)]
 pub enum Reply {
     // the line names a cipher
     Named(Name),
