@@ -1,8 +1,9 @@
 -- Bytes as digits and back: lengths, places, and that each way undoes the other. Assumes nothing.
-use Rattle.std.proofs.Common.{◌≡◌, ℕ, zero, suc, ◌+◌, ◌*◌, ◌/◌, ◌%◌, ◌<◌, min, true, List, [], ◌∷◌, ◌++◌, length, get_or, take, drop, set, sym, refl, ap, ◌∙◌, inl, inr, append_assoc, arith, rules}
+use Rattle.std.proofs.Common.{◌≡◌, ℕ, zero, suc, ◌+◌, ◌*◌, ◌/◌, ◌%◌, ◌<◌, min, true, List, [], ◌∷◌, ◌++◌, map, length, get_or, take, drop, set, sym, refl, ap, ◌∙◌, inl, inr, append_assoc, arith, rules}
 use Rattle.std.proofs.lemmas.List.{set_at, take_more, drop_more, take_all, drop_all, append-nil, length-take-le}
 use Rattle.std.proofs.lemmas.Bool.{cases_lt}
 use Rattle.std.proofs.lemmas.Bool.Decides.{nat_tests}
+use Rattle.std.specs.Simd.{first_chunks}
 use Rattle.blocks.specs.Blocks.{AllBytes}
 use Rattle.digits.specs.Hex.{digit, hex, is_digit, value, unhex, decoded}
 
@@ -28,17 +29,27 @@ length-unhex [] = refl
 length-unhex (a ∷ []) = refl
 length-unhex (a ∷ b ∷ cs) = let r = length-unhex cs in omega arith
 
-pub unhex-at : (cs : List ℕ) (i : ℕ) → 2 * i + 1 < length cs → get_or (unhex cs) i 0 ≡ 16 * value (get_or cs (2 * i) 0) + value (get_or cs (2 * i + 1) 0)
-unhex-at [] i h = let z : ⊥ = omega arith in absurd z
-unhex-at (a ∷ []) i h = let z : ⊥ = omega arith in absurd z
-unhex-at (a ∷ b ∷ cs) zero h = refl
-unhex-at (a ∷ b ∷ cs) (suc i) h =
-    let e : 2 * suc i ≡ suc (suc (2 * i)) = omega arith in
-    let f : 2 * suc i + 1 ≡ suc (suc (2 * i + 1)) = omega arith in
-    unhex-at cs i (omega arith) ∙ ap (λ k. 16 * value (get_or (a ∷ b ∷ cs) k 0) + value (get_or cs (2 * i + 1) 0)) (sym e)
-    ∙ ap (λ k. 16 * value (get_or (a ∷ b ∷ cs) (2 * suc i) 0) + value (get_or (a ∷ b ∷ cs) k 0)) (sym f)
+-- the byte that a pair of characters is
+abbrev pub pair_value : List ℕ → ℕ
+pair_value p = 16 * value (get_or p 0 0) + value (get_or p 1 0)
+
+pub unhex_pairs : (cs : List ℕ) (k : ℕ) → length cs / 2 ≡ k → map pair_value (first_chunks 2 k cs) ≡ unhex cs
+unhex_pairs [] zero h = refl
+unhex_pairs [] (suc k) h = let z : ⊥ = omega arith in absurd z
+unhex_pairs (a ∷ []) zero h = refl
+unhex_pairs (a ∷ []) (suc k) h = let z : ⊥ = omega arith in absurd z
+unhex_pairs (a ∷ b ∷ cs) zero h = let z : ⊥ = omega arith in absurd z
+unhex_pairs (a ∷ b ∷ cs) (suc k) h = ap (λ (v : List ℕ). (16 * value a + value b) ∷ v) (unhex_pairs cs k (omega arith))
 
 -- ## A buffer that is filled
+
+-- what is left of a list, as its first item and the rest
+pub first_left : (u r : List ℕ) (i x : ℕ) → drop i u ≡ x ∷ r → (i < length u) × (x ≡ get_or u i 0) × (r ≡ drop (i + 1) u)
+first_left u r i x e =
+    elim (cases_lt i (length u)) [
+      | inl h ↦ let m = drop_more u i 0 h in (h, cc, cc)
+      | inr h ↦ let n = drop_all i u h in cc
+    ]
 
 -- one byte more at the front of a buffer
 pub front-more : (u out : List ℕ) (i : ℕ) → i < length u → i < length out → set (take i u ++ drop i out) i (get_or u i 0) ≡ take (i + 1) u ++ drop (i + 1) out

@@ -1,7 +1,8 @@
 -- Reading two digits after another. Assumes nothing.
-use Rattle.std.proofs.Common.{◌≡◌, ℕ, ◌+◌, ◌*◌, ◌%◌, ◌<◌, ◌≤◌, List, [], ◌∷◌, ◌++◌, length, get_or, drop, Some, None, Option, sym, refl, ap, ◌∙◌, append_assoc, append-nil, arith}
+use Rattle.std.proofs.Common.{◌≡◌, ℕ, zero, suc, ◌+◌, ◌*◌, ◌%◌, ◌<◌, ◌≤◌, List, [], ◌∷◌, ◌++◌, length, get_or, drop, Some, None, Option, sym, refl, ap, ap₂, ◌∙◌, append_assoc, append-nil, arith}
 use Rattle.std.proofs.lemmas.List.{drop_more, drop_all}
 use Rattle.std.specs.Option.{option_map}
+use Rattle.std.specs.Simd.{first_chunks}
 use Rattle.digits.specs.Digits.{value_of, then_digit, byte_before, digits_bytes}
 
 -- bytes xs in front of what a text is
@@ -11,6 +12,17 @@ after xs o = option_map (λ bs. xs ++ bs) o
 after_before : (xs : List ℕ) (b : ℕ) (o : Option (List ℕ)) → after xs (byte_before (Some b) o) ≡ after (xs ++ b ∷ []) o
 after_before xs b None = refl
 after_before xs b (Some bs) = ap Some (sym (append_assoc xs (b ∷ []) bs))
+
+-- the pairs that a text is cut into are its characters in turn
+pub pairs_at : (cs : List ℕ) (k i : ℕ) (d : List ℕ) → i < k → 2 * k ≤ length cs → get_or (first_chunks 2 k cs) i d ≡ get_or cs (2 * i) 0 ∷ get_or cs (2 * i + 1) 0 ∷ []
+pairs_at [] k i d h l = let z : ⊥ = omega arith in absurd z
+pairs_at (a ∷ []) k i d h l = let z : ⊥ = omega arith in absurd z
+pairs_at (a ∷ b ∷ cs) zero i d h l = let z : ⊥ = omega arith in absurd z
+pairs_at (a ∷ b ∷ cs) (suc k) zero d h l = refl
+pairs_at (a ∷ b ∷ cs) (suc k) (suc i) d h l =
+    let e : suc (suc (2 * i)) ≡ 2 * suc i = omega arith in
+    let f : suc (suc (2 * i + 1)) ≡ 2 * suc i + 1 = omega arith in
+    pairs_at cs k i d (omega arith) (omega arith) ∙ ap₂ (λ (m n : ℕ). get_or (a ∷ b ∷ cs) m 0 ∷ get_or (a ∷ b ∷ cs) n 0 ∷ []) e f
 
 -- the two characters at 2 i, and the rest
 two-more : (cs : List ℕ) (i : ℕ) → 2 * i + 1 < length cs → drop (2 * i) cs ≡ get_or cs (2 * i) 0 ∷ get_or cs (2 * i + 1) 0 ∷ drop (2 * (i + 1)) cs

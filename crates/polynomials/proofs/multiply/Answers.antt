@@ -14,7 +14,7 @@ small (suc (suc p)) a hp h = omega arith
 
 pub overflow_mul-sum : goal.overflow_mul-sum
 overflow_mul-sum c =
-    let p = c.loop-i in
+    let p = c.loop in
     omega (arith, small (bit_and p.rest 1) p.shifted (omega (arith, and_mask p.rest 1)) p.invariant.0)
 
 -- a turn moves the lowest term of the rest into the sum
@@ -25,19 +25,19 @@ turn sum x m next h d =
     ∙ xor_assoc sum (m % 2 * x) (product (times_x x) (m / 2))
     ∙ ap (bit_xor sum) (sym (product_step x m h))
 
-pub loop-i-preserved : goal.loop-i-preserved
-loop-i-preserved c =
-    let p = c.loop-i in
+pub loop-preserved : goal.loop-preserved
+loop-preserved c =
+    let p = c.loop in
     let next = c.times_x-shifted in (
       omega arith,
-      ap (λ n. n / 2) p.invariant.1 ∙ shr-shr c.args.b p.i 1,
+      ap (λ n. n / 2) p.invariant.1 ∙ shr-shr c.args.b p.counter 1,
       turn p.sum p.shifted p.rest next.result p.invariant.0 next.ensures ∙ p.invariant.2,
     )
 
 pub returns : goal.returns
 returns c =
-    let p = c.loop-i in
-    let done : p.i ≡ 128 = omega arith in
+    let p = c.loop in
+    let done : p.counter ≡ 128 = omega arith in
     let none : c.args.b / 2 ^ 128 ≡ 0 = omega arith in
     let rest : p.rest ≡ 0 = p.invariant.1 ∙ ap (λ n. c.args.b / 2 ^ n) done ∙ none in
     let value : p.sum ≡ product c.args.a c.args.b =

@@ -15,15 +15,14 @@ pub returns-then-self-lt15 : goal.returns-then-self-lt15
 returns-then-self-lt15 c =
     let s = c.args.self.now in
     let b = c.args.byte in
-    ap (λ (n : ℕ). record { sum = s.sum; part = n; fill = s.fill + 1 }) (widened s.part b c.from.result c.from.ensures (omega arith))
-    ∙ sym (stepped_low c.args.key s b (omega arith))
+    ap (λ (n : ℕ). record { key = s.key; sum = s.sum; part = n; fill = s.fill + 1 }) (widened s.part b c.from.result c.from.ensures (omega arith))
+    ∙ sym (stepped_low s b (omega arith))
 
 pub returns-else-self-lt15 : goal.returns-else-self-lt15
 returns-else-self-lt15 c =
     let s = c.args.self.now in
-    let k = c.args.key in
     let b = c.args.byte in
-    ap (λ (n : ℕ). record { sum = n; part = 0; fill = 0 })
+    ap (λ (n : ℕ). record { key = s.key; sum = n; part = 0; fill = 0 })
     (c.multiply-self.ensures.value
-    ∙ ap (λ n. product (bit_xor s.sum n) k) (widened s.part b c.from.result c.from.ensures (omega arith)))
-    ∙ sym (stepped_high k s b (omega arith))
+    ∙ ap (λ n. product (bit_xor s.sum n) s.key) (widened s.part b c.from.result c.from.ensures (omega arith)))
+    ∙ sym (stepped_high s b (omega arith))
