@@ -1,5 +1,5 @@
 // What a mark store is at one moment: the five things that it means, as plain values to be printed or compared.
-#[derive(Clone, Copy)]
+#[derive(Clone, Copy, Debug, PartialEq, Eq)]
 pub struct Reading {
     pub mark: u64,
     pub capacity: u64,
