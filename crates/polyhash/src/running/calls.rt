@@ -20,6 +20,13 @@ impl Running {
         }
     }
 
+    // The block that the hash is under.
+    pub fn key(&self) -> u128
+        ensures { result ≡ self.now.key }
+    {
+        self.key
+    }
+
     // Takes one byte; the sixteenth of a block ends it.
     fn step(&mut self, byte: u8)
         ensures { self.new ≡ stepped self.old byte }
