@@ -3,7 +3,7 @@ use Rattle.std.proofs.Common.{◌≡◌, length, sym, ◌∙◌, arith}
 use Rattle.std.proofs.lemmas.List.{take_all}
 use Rattle.std.proofs.lemmas.Bool.{eq-eqb, eqb-true}
 use Rattle.checks.proofs.Gaps.{gap_more}
-use Rattle.checks.proofs.sheet.calls.same_front.Goals as goal
+use Rattle.checks.proofs.sheet.confirm.same_front.Goals as goal
 
 pub loop-k-preserved : goal.loop-k-preserved
 loop-k-preserved c = gap_more c.args.full.now c.args.tag.now c.loop-k.k c.loop-k.gap (omega arith) (omega arith) c.loop-k.invariant
