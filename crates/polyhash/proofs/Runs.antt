@@ -11,7 +11,7 @@ use Rattle.polynomials.specs.Polynomials.{product}
 use Rattle.polyhash.specs.declared.running.Running.{Running}
 use Rattle.polyhash.specs.Hash.{blocks_of, chained, hash}
 use Rattle.polyhash.specs.Running.{started, longer, stepped, absorbed, finished, Laws}
-use Rattle.polyhash.proofs.Chains.{bytes_zeros, number_push, blocks_append, blocks_push, chained_push}
+use Rattle.polyhash.proofs.Chains.{shifted_in, bytes_zeros, number_push, blocks_append, blocks_push, chained_push}
 
 pub stepped_low : (s : Running) (b : ℕ) → s.fill < 15 →
     stepped s b ≡ record { key = s.key; sum = s.sum; part = longer s.part b; fill = s.fill + 1 }
@@ -153,3 +153,10 @@ finished_whole s m bm e = ap finished e ∙ absorbed-finished s.key m bm
 
 pub laws : Laws
 laws = record { pieces = absorbed_append; keyed = absorbed_key; whole = absorbed-finished }
+
+-- what the proofs of `step`, `absorb` and `finish` take
+pub ruleset stepping = (shifted_in, stepped_low, stepped_high)
+
+pub ruleset absorbing = (absorbed_none, absorbed_more, laws)
+
+pub ruleset finishing = (absorbed_none, absorbed_zero, absorbed_cons, finished_whole)
