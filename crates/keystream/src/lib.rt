@@ -10,6 +10,7 @@ pub mod hash;
 pub mod stream;
 
 // The keystream of a nonce under a cipher. It holds no more than the two; each call works out what it needs.
+#[derive_where(Clone, Copy)]
 pub struct Keystream<'c, C> {
     cipher: &'c C,
     nonce: u64,
