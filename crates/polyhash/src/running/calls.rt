@@ -20,6 +20,13 @@ impl Running {
         }
     }
 
+    // The block that the hash is under.
+    pub fn key(&self) -> u128
+        ensures { result ≡ self.now.key }
+    {
+        self.key
+    }
+
     // Takes one byte; the sixteenth of a block ends it.
     #[tactic(auto, using(crate::proofs::Runs::stepping))]
     fn step(&mut self, byte: u8)
