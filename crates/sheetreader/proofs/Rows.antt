@@ -1,7 +1,7 @@
 -- A line that was read, and the lines after it. Assumes nothing.
 -- to_come room left tag: the widths of lines that tell `left` bytes of ciphertext, of which the first takes `room` at the most, and a tag.
 use Rattle.std.proofs.Common.{◌≡◌, ℕ, ◌+◌, ◌-◌, ◌*◌, ◌<◌, min, List, [], ◌∷◌, ◌++◌, drop, Some, Ok, Err, ap, arith}
-use Rattle.sheetlines.proofs.Frames.{frames-more, fault_here, fault_later}
+use Rattle.sheetlines.proofs.Widths.{frames-more, fault_here, fault_later}
 use Rattle.sheetlines.specs.Lines.{lines_size, fault_in, lines_fault}
 use Rattle.sheetlines.specs.Sheets.{later_frame, frames}
 use Rattle.sheetlines.specs.declared.fault.LineFault.{LineFault}

@@ -4,13 +4,10 @@ use Rattle.std.proofs.Common.{◌≡◌, ℕ, zero, suc, ◌+◌, ◌-◌, ◌*�
 use Rattle.std.proofs.lemmas.List.{drop-drop}
 use Rattle.std.proofs.lemmas.Bool.{cond-true, cond-false, eq-eqb, ne_eqb, eqb-true, eqb-false}
 use Rattle.sheetlines.specs.Lines.{lines_size, fault_in, or_else, lines_fault}
-use Rattle.sheetlines.specs.Sheets.{later_frame, frames}
+use Rattle.sheetlines.specs.Sheets.{first_frame, later_frame, frames, frames_of}
 use Rattle.sheetlines.specs.declared.fault.LineFault.{LineFault}
 
 -- ## Widths
-
-pub frames_none : (room : ℕ) → frames 0 room 0 ≡ []
-frames_none room = refl
 
 -- more turns than lines change nothing
 pub frames_fuel : (j k room left : ℕ) → left ≤ j → left ≤ k → 0 < room → frames j room left ≡ frames k room left
@@ -46,6 +43,9 @@ total-frames (suc k) room left h r = go (eqb left 0) refl (total-frames k later_
     go true e i = let z = eqb-true left 0 e in omega arith
     go false e i = omega arith
 
+pub total_frames_of : (m : ℕ) → total (frames_of m) ≡ m
+total_frames_of m = total-frames m first_frame m (omega arith) (lit< tt)
+
 -- no line is empty, so there are no more lines than bytes
 pub length-frames : (k room left : ℕ) → 0 < room → length (frames k room left) ≤ left
 length-frames zero room left r = omega arith
@@ -66,6 +66,12 @@ size_append (w ∷ ws) vs = let r = size_append ws vs in omega arith
 pub size_total : (ws : List ℕ) → lines_size ws ≡ 2 * total ws + length ws
 size_total [] = refl
 size_total (w ∷ ws) = let r = size_total ws in omega arith
+
+-- the lines of a ciphertext: there are no more of them than it has bytes
+pub size_frames_of : (m : ℕ) → (lines_size (frames_of m) ≡ 2 * m + length (frames_of m)) × (length (frames_of m) ≤ m)
+size_frames_of m =
+    let t = total_frames_of m in
+    (size_total (frames_of m) ∙ omega arith, length-frames m first_frame m (lit< tt))
 
 -- ## Faults
 
