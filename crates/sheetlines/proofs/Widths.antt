@@ -4,13 +4,10 @@ use Rattle.std.proofs.Common.{◌≡◌, ℕ, zero, suc, ◌+◌, ◌-◌, ◌*�
 use Rattle.std.proofs.lemmas.List.{drop-drop}
 use Rattle.std.proofs.lemmas.Bool.{cond-true, cond-false, eq-eqb, ne_eqb, eqb-true, eqb-false}
 use Rattle.sheetlines.specs.Lines.{lines_size, fault_in, or_else, lines_fault}
-use Rattle.sheetlines.specs.Sheets.{later_frame, frames}
+use Rattle.sheetlines.specs.Sheets.{first_frame, later_frame, frames, frames_of}
 use Rattle.sheetlines.specs.declared.fault.LineFault.{LineFault}
 
 -- ## Widths
-
-pub frames_none : (room : ℕ) → frames 0 room 0 ≡ []
-frames_none room = refl
 
 -- more turns than lines change nothing
 pub frames_fuel : (j k room left : ℕ) → left ≤ j → left ≤ k → 0 < room → frames j room left ≡ frames k room left
@@ -46,6 +43,25 @@ total-frames (suc k) room left h r = go (eqb left 0) refl (total-frames k later_
     go true e i = let z = eqb-true left 0 e in omega arith
     go false e i = omega arith
 
+pub total_frames_of : (m : ℕ) → total (frames_of m) ≡ m
+total_frames_of m = total-frames m first_frame m (omega arith) (lit< tt)
+
+-- no line tells more bytes than a frame has
+abbrev pub Narrow : List ℕ → Type 0
+Narrow [] = Unit {0}
+Narrow (w ∷ ws) = (w ≤ later_frame) × Narrow ws
+
+narrow-frames : (k room left : ℕ) → room ≤ later_frame → Narrow (frames k room left)
+narrow-frames zero room left r = tt
+narrow-frames (suc k) room left r = go (eqb left 0) (narrow-frames k later_frame (left - room) (omega arith))
+  where
+    go : (b : Bool) → Narrow (frames k later_frame (left - room)) → Narrow (cond b [] (min left room ∷ frames k later_frame (left - room)))
+    go true i = tt
+    go false i = (omega arith, i)
+
+pub narrow_frames_of : (m : ℕ) → Narrow (frames_of m)
+narrow_frames_of m = narrow-frames m first_frame m (omega arith)
+
 -- no line is empty, so there are no more lines than bytes
 pub length-frames : (k room left : ℕ) → 0 < room → length (frames k room left) ≤ left
 length-frames zero room left r = omega arith
@@ -67,21 +83,30 @@ pub size_total : (ws : List ℕ) → lines_size ws ≡ 2 * total ws + length ws
 size_total [] = refl
 size_total (w ∷ ws) = let r = size_total ws in omega arith
 
+-- the lines of a ciphertext: there are no more of them than it has bytes
+pub size_frames_of : (m : ℕ) → (lines_size (frames_of m) ≡ 2 * m + length (frames_of m)) × (length (frames_of m) ≤ m)
+size_frames_of m =
+    let t = total_frames_of m in
+    (size_total (frames_of m) ∙ omega arith, length-frames m first_frame m (lit< tt))
+
 -- ## Faults
 
 -- the first line has a fault
-pub fault_here : (l w p : ℕ) (ws text : List ℕ) (e : LineFault) → fault_in l 1 (2 * w) (drop p text) ≡ Some e
-    → lines_fault l (w ∷ ws) (drop p text) ≡ Some e
-fault_here l w p ws text e h = ap (λ (o : Option LineFault). or_else o (lines_fault (l + 1) ws (drop (2 * w + 1) (drop p text)))) h
+pub fault_here : (l w : ℕ) (ws text : List ℕ) (e : LineFault) → fault_in l 1 (2 * w) text ≡ Some e → lines_fault l (w ∷ ws) text ≡ Some e
+fault_here l w ws text e h = ap (λ (o : Option LineFault). or_else o (lines_fault (l + 1) ws (drop (2 * w + 1) text))) h
 
--- the first line has none, and the next one begins at q
-pub fault_later : (l w p q : ℕ) (ws text : List ℕ) → fault_in l 1 (2 * w) (drop p text) ≡ None → q ≡ p + 2 * w + 1
-    → lines_fault l (w ∷ ws) (drop p text) ≡ lines_fault (l + 1) ws (drop q text)
-fault_later l w p q ws text h e =
-    let at : p + (2 * w + 1) ≡ q = omega arith in
-    ap (λ (o : Option LineFault). or_else o (lines_fault (l + 1) ws (drop (2 * w + 1) (drop p text)))) h
-    ∙ ap (lines_fault (l + 1) ws) (drop-drop (2 * w + 1) p text)
-    ∙ ap (λ x. lines_fault (l + 1) ws (drop x text)) at
+-- the first line has none
+pub fault_later : (l w : ℕ) (ws text : List ℕ) → fault_in l 1 (2 * w) text ≡ None
+    → lines_fault l (w ∷ ws) text ≡ lines_fault (l + 1) ws (drop (2 * w + 1) text)
+fault_later l w ws text h = ap (λ (o : Option LineFault). or_else o (lines_fault (l + 1) ws (drop (2 * w + 1) text))) h
+
+-- there is but one line
+pub fault_only : (l w : ℕ) (text : List ℕ) → lines_fault l (w ∷ []) text ≡ fault_in l 1 (2 * w) text
+fault_only l w text = alone (fault_in l 1 (2 * w) text)
+  where
+    alone : (o : Option LineFault) → or_else o None ≡ o
+    alone None = refl
+    alone (Some e) = refl
 
 -- two that are none
 pub none_both : (o p : Option LineFault) → or_else o p ≡ None → (o ≡ None) × (p ≡ None)
