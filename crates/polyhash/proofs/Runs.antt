@@ -1,8 +1,8 @@
 -- The running hash is the hash: by induction over the bytes, its state stands for the string so far. Assumes nothing.
-use Rattle.std.proofs.Common.{◌≡◌, ℕ, ◌+◌, ◌-◌, ◌*◌, ◌/◌, ◌%◌, ◌<◌, ◌≤◌, List, [], ◌∷◌, ◌++◌, length, take, drop, replicate, sym, refl, ap, ◌∙◌, subst, ap₂, inl, inr, append_assoc, append-nil, arith, le-ltb, lt-ltb}
+use Rattle.std.proofs.Common.{◌≡◌, ℕ, ◌+◌, ◌-◌, ◌*◌, ◌/◌, ◌%◌, ◌<◌, ◌≤◌, List, [], ◌∷◌, ◌++◌, length, get_or, take, drop, replicate, sym, refl, ap, ◌∙◌, subst, ap₂, inl, inr, append_assoc, append-nil, arith, le-ltb, lt-ltb}
 use lib.Bits.{bit_xor}
 use Rattle.std.proofs.iter.runs.Lists.{fold-append}
-use Rattle.std.proofs.lemmas.List.{take_all, drop_all, drop-append-le, length-drop, length_push}
+use Rattle.std.proofs.lemmas.List.{take_all, take_more, drop_all, drop-append-le, length-drop, length_push, replicate_more}
 use Rattle.std.proofs.lemmas.List.Sums.{fold_push}
 use Rattle.std.proofs.lemmas.Bool.{cases_lt}
 use Rattle.blocks.specs.Blocks.{number, number_from, AllBytes}
@@ -11,7 +11,7 @@ use Rattle.polynomials.specs.Polynomials.{product}
 use Rattle.polyhash.specs.declared.running.Running.{Running}
 use Rattle.polyhash.specs.Hash.{blocks_of, chained, hash}
 use Rattle.polyhash.specs.Running.{started, longer, stepped, absorbed, finished, Laws}
-use Rattle.polyhash.proofs.Chains.{bytes_zeros, number_push, blocks_append, blocks_push, chained_push}
+use Rattle.polyhash.proofs.Chains.{shifted_in, bytes_zeros, number_push, blocks_append, blocks_push, chained_push}
 
 pub stepped_low : (s : Running) (b : ℕ) → s.fill < 15 →
     stepped s b ≡ record { key = s.key; sum = s.sum; part = longer s.part b; fill = s.fill + 1 }
@@ -30,6 +30,16 @@ absorbed_none s = refl
 pub absorbed_push : (s : Running) (bs : List ℕ) (b : ℕ) → absorbed s (bs ++ (b ∷ [])) ≡ stepped (absorbed s bs) b
 unfolding absorbed
 absorbed_push s bs b = fold_push stepped s bs b
+
+-- one byte more of a list, and one zero more
+pub absorbed_more : (s : Running) (bs : List ℕ) (i : ℕ) → i < length bs → absorbed s (take (i + 1) bs) ≡ stepped (absorbed s (take i bs)) (get_or bs i 0)
+absorbed_more s bs i h = ap (absorbed s) (take_more bs i 0 h) ∙ absorbed_push s (take i bs) (get_or bs i 0)
+
+absorbed_again : (s : Running) (n : ℕ) → absorbed s (replicate (n + 1) 0) ≡ stepped (absorbed s (replicate n 0)) 0
+absorbed_again s n = ap (absorbed s) (sym (replicate_more n 0)) ∙ absorbed_push s (replicate n 0) 0
+
+pub absorbed_zero : (s : Running) (i n : ℕ) → n ≤ i → absorbed s (replicate (i + 1 - n) 0) ≡ stepped (absorbed s (replicate (i - n) 0)) 0
+absorbed_zero s i n h = let more : i + 1 - n ≡ i - n + 1 = omega arith in rw more (absorbed_again s (i - n))
 
 pub absorbed_cons : (s : Running) (b : ℕ) (bs : List ℕ) → absorbed (stepped s b) bs ≡ absorbed s (b ∷ bs)
 unfolding absorbed
@@ -138,5 +148,15 @@ stands-finished k s m bm r =
 pub absorbed-finished : (k : ℕ) (m : List ℕ) → AllBytes m → finished (absorbed (started k) m) ≡ hash k m
 absorbed-finished k m bm = stands-finished k (absorbed (started k) m) m bm (stands_append k m (started k) [] tt bm (stands_none k))
 
+pub finished_whole : (s : Running) (m : List ℕ) → AllBytes m → s ≡ absorbed (started s.key) m → finished s ≡ hash s.key m
+finished_whole s m bm e = ap finished e ∙ absorbed-finished s.key m bm
+
 pub laws : Laws
 laws = record { pieces = absorbed_append; keyed = absorbed_key; whole = absorbed-finished }
+
+-- what the proofs of `step`, `absorb` and `finish` take
+pub ruleset stepping = (shifted_in, stepped_low, stepped_high)
+
+pub ruleset absorbing = (absorbed_none, absorbed_more, laws)
+
+pub ruleset finishing = (absorbed_none, absorbed_zero, absorbed_cons, finished_whole)

@@ -5,7 +5,7 @@ use Rattle.refusals.specs.Answers.{answered}
 use Rattle.method.proofs.Undone.{length-crypt, length-tag}
 use Rattle.method.specs.Limits.{header_limit}
 use Rattle.method.specs.Published.{crypt, tag}
-use Rattle.sheetlines.proofs.Frames.{size_total, total-frames, length-frames}
+use Rattle.sheetlines.proofs.Widths.{size_total, total-frames, length-frames}
 use Rattle.sheetlines.proofs.Sizes.{length-lines}
 use Rattle.sheetlines.specs.Lines.{lines_size}
 use Rattle.sheetlines.specs.Sheets.{first_frame, frames_of, lines_of}

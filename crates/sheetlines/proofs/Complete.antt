@@ -1,5 +1,5 @@
 -- Lines are read without a fault, as the bytes that they are of: one line, lines one after another, line 1, and a whole sheet. Assumes nothing.
-use Rattle.std.proofs.Common.{◌≡◌, ℕ, zero, suc, ◌+◌, ◌*◌, ◌^◌, ◌<◌, ◌≤◌, ltb, leb, List, [], ◌∷◌, ◌++◌, length, take, drop, None, Ok, Option, sym, refl, ap, ◌∙◌, mod-eq_of_lt, arith, lit<}
+use Rattle.std.proofs.Common.{◌≡◌, ℕ, zero, suc, ◌+◌, ◌*◌, ◌^◌, ◌<◌, ◌≤◌, ltb, leb, List, [], ◌∷◌, ◌++◌, length, take, drop, None, Ok, Option, sym, refl, ap, ◌∙◌, mod-eq_of_lt, arith}
 use Rattle.std.proofs.lemmas.List.{append_assoc, append-nil, take-append-drop, drop-drop, take_at, drop_at, length-take-le, length-drop}
 use Rattle.std.proofs.lemmas.Bool.{cond-true, cond-false, and_from, le-leb, lt-ltb, le-ltb}
 use Rattle.blocks.specs.Blocks.{AllBytes, number, bytes_of}
@@ -10,10 +10,10 @@ use Rattle.digits.proofs.Hexes.{Digital, length-hex, hex_digital, unhex-hex}
 use Rattle.method.specs.Limits.{header_limit, message_limit, tag_fits, nonce_fits}
 use Rattle.sheetlines.specs.Laws.{sheet_fields, Within, ReadBack}
 use Rattle.sheetlines.specs.Lines.{feed, line_of, lines_size, fault_in, or_else, lines_fault, bytes_in}
-use Rattle.sheetlines.specs.Sheets.{first_frame, frames_of, body_lines, first_bytes, lines_of, fields, fields_told, first_digits, fields_of, field_fault, widths, header_at, cipher_at, tag_at, at_end, at_rest, at_first, sheet_answer}
+use Rattle.sheetlines.specs.Sheets.{frames_of, body_lines, first_bytes, lines_of, fields, fields_told, first_digits, fields_of, field_fault, widths, header_at, cipher_at, tag_at, at_end, at_rest, at_first, sheet_answer}
 use Rattle.sheetlines.specs.declared.fault.LineFault.{LineFault}
 use Rattle.sheetlines.specs.declared.fields.Fields.{Fields}
-use Rattle.sheetlines.proofs.Frames.{total, total-frames, none_both}
+use Rattle.sheetlines.proofs.Widths.{total, total_frames_of, none_both}
 use Rattle.sheetlines.proofs.Sizes.{length_line, length-first_bytes, length-lines-widths}
 
 -- ## One line
@@ -145,7 +145,7 @@ read_back N h c t w =
     let fr = frames_of m in
     let text = lines_of N h c t in
     let body = body_lines fr c ++ line_of t in
-    let tw = total-frames m first_frame m (omega arith) (lit< tt) in
+    let tw = total_frames_of m in
     -- each line by itself
     let one = row 1 15 (first_bytes N m x y) (line_of h ++ body) (first_bytes_bytes N m x y) (length-first_bytes N m x y) in
     let two = row 2 x h body w.header_bytes refl in

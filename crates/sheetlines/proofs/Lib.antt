@@ -1,5 +1,5 @@
 pub mod Complete
-pub mod Frames
+pub mod Widths
 pub mod Proved
 pub mod Sizes
 pub mod Sound

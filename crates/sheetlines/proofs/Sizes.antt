@@ -6,7 +6,7 @@ use Rattle.digits.proofs.Hexes.{length-hex}
 use Rattle.sheetlines.specs.Lines.{line_of, lines_size}
 use Rattle.sheetlines.specs.Sheets.{later_frame, first_frame, frames, frames_of, body_lines, first_bytes, lines_of, widths, header_at}
 use Rattle.sheetlines.specs.Laws.{sheet_fields}
-use Rattle.sheetlines.proofs.Frames.{size_append}
+use Rattle.sheetlines.proofs.Widths.{size_append}
 
 pub length_line : (bs : List ℕ) → length (line_of bs) ≡ 2 * length bs + 1
 length_line bs = simp length-append (omega (arith, length-hex bs))

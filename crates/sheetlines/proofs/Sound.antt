@@ -1,5 +1,5 @@
 -- What is read without a fault is lines: one line, lines one after another, line 1, and a whole text. Assumes nothing.
-use Rattle.std.proofs.Common.{◌≡◌, ℕ, zero, suc, ◌+◌, ◌*◌, ◌^◌, ◌<◌, ◌≤◌, Bool, true, false, cond, eqb, ltb, List, [], ◌∷◌, ◌++◌, length, take, drop, Some, None, Ok, Err, Option, Result, sym, refl, ap, ◌∙◌, subst, arith, lit<}
+use Rattle.std.proofs.Common.{◌≡◌, ℕ, zero, suc, ◌+◌, ◌*◌, ◌^◌, ◌<◌, ◌≤◌, Bool, true, false, cond, eqb, ltb, List, [], ◌∷◌, ◌++◌, length, take, drop, Some, None, Ok, Err, Option, Result, sym, refl, ap, ◌∙◌, subst, arith}
 use Rattle.std.proofs.lemmas.List.{append_assoc, append-nil, take-append-drop, drop-drop, take_at, drop_at, length-append, length-take-le, length-drop, drop_all}
 use Rattle.std.proofs.lemmas.Bool.{eqb-true, ltb-false}
 use Rattle.std.proofs.lemmas.Bool.Decides.{nat_tests}
@@ -11,14 +11,14 @@ use Rattle.digits.proofs.Hexes.{Digital, hex-unhex, unhex_bytes}
 use Rattle.method.specs.Limits.{header_limit, message_limit}
 use Rattle.sheetlines.specs.Laws.{Parts}
 use Rattle.sheetlines.specs.Lines.{feed, line_of, lines_size, place, fault_in, lines_fault, bytes_in}
-use Rattle.sheetlines.specs.Sheets.{first_frame, frames_of, body_lines, first_bytes, lines_of, fields_told, first_digits, fields_of, field_fault, widths, header_at, cipher_at, tag_at, at_end, at_rest, at_first, sheet_answer, header_of, cipher_of, tag_of}
+use Rattle.sheetlines.specs.Sheets.{frames_of, body_lines, first_bytes, lines_of, fields_told, first_digits, fields_of, field_fault, widths, header_at, cipher_at, tag_at, at_end, at_rest, at_first, sheet_answer, header_of, cipher_of, tag_of}
 use Rattle.sheetlines.specs.declared.fault.Field.{Field}
 use Rattle.sheetlines.specs.declared.fault.LineFault.{LineFault}
 use Rattle.sheetlines.specs.declared.fault.LineFault.TheVariants.{NoDigit, WrongEnd}
 use Rattle.sheetlines.specs.declared.fault.SheetFault.{SheetFault}
 use Rattle.sheetlines.specs.declared.fault.SheetFault.TheVariants.{MoreBytes}
 use Rattle.sheetlines.specs.declared.fields.Fields.{Fields}
-use Rattle.sheetlines.proofs.Frames.{total, total-frames, size_append, none_both, fault_append}
+use Rattle.sheetlines.proofs.Widths.{total, total_frames_of, size_append, none_both, fault_append}
 
 none_some : {X : Type 0} {e : LineFault} → Some e ≡ None → X
 none_some h = let z : ◌≡◌ {A = ℕ} 0 1 = cc in let b : ⊥ = omega arith in absurd b
@@ -229,7 +229,7 @@ canonical text f answer =
     let first : text ≡ line_of (told f) ++ xs =
     first_sound text r.first ∙ ap (λ (v : Fields). line_of (told v) ++ xs) (sym r.is) in
     let eh : length H ≡ h = header-line.1 in
-    let ec : length C ≡ m = cipher-lines.1 ∙ total-frames m first_frame m (omega arith) (lit< tt) in
+    let ec : length C ≡ m = cipher-lines.1 ∙ total_frames_of m in
     let et : length T ≡ t = tag-line.1 in
     let inside = limited f r.ranges in
     record {

@@ -5,14 +5,14 @@ ghost use Rattle.sheetlines.specs.declared.fault.SheetFault.TheVariants.{InLine}
 use refusals::Refusal;
 
 // Where a fault lies: the line, and the byte of that line, both from 1.
-#[derive(Clone, Copy)]
+#[derive(Clone, Copy, Debug, PartialEq, Eq)]
 pub struct Place {
     pub line: usize,
     pub column: usize,
 }
 
 // Why a line could not be read.
-#[derive(Clone, Copy)]
+#[derive(Clone, Copy, Debug, PartialEq, Eq)]
 pub enum LineFault {
     // a byte stands in a digit's place that is none
     NoDigit(Place),
@@ -21,7 +21,7 @@ pub enum LineFault {
 }
 
 // The fields of line 1, in their order.
-#[derive(Clone, Copy)]
+#[derive(Clone, Copy, Debug, PartialEq, Eq)]
 pub enum Field {
     Nonce,
     MessageLength,
@@ -30,7 +30,7 @@ pub enum Field {
 }
 
 // Why a text is not the lines of a sheet.
-#[derive(Clone, Copy)]
+#[derive(Clone, Copy, Debug, PartialEq, Eq)]
 pub enum SheetFault {
     InLine(LineFault),
     // a field of line 1 is outside its range
@@ -56,8 +56,7 @@ impl LineFault {
         ensures { result ≡ fault_place self.now }
     {
         match self {
-            LineFault::NoDigit(place) => *place,
-            LineFault::WrongEnd(place) => *place,
+            LineFault::NoDigit(place) | LineFault::WrongEnd(place) => *place,
         }
     }
 }

@@ -1,5 +1,5 @@
 // What line 1 tells of a sheet.
-#[derive(Clone, Copy)]
+#[derive(Clone, Copy, Debug, PartialEq, Eq)]
 pub struct Fields {
     pub nonce: u64,
     pub message_len: usize,

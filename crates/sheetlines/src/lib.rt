@@ -3,4 +3,5 @@
 
 pub mod fault;
 pub mod fields;
+pub mod frames;
 pub mod layout;

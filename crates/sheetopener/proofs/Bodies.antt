@@ -7,7 +7,7 @@ use Rattle.digits.proofs.Hexes.{length-unhex, decoded_all, unhex_bytes}
 use Rattle.digits.specs.Hex.{unhex, decoded}
 use Rattle.polyhash.specs.Running.{absorbed}
 use Rattle.polyhash.specs.declared.running.Running.{Running}
-use Rattle.sheetlines.proofs.Frames.{frames-more}
+use Rattle.sheetlines.proofs.Widths.{frames-more}
 use Rattle.sheetlines.specs.Lines.{lines_size, bytes_in}
 use Rattle.sheetlines.specs.Sheets.{later_frame, frames}
 

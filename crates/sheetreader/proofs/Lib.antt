@@ -1,4 +1,3 @@
-pub mod Answered
 pub mod Rows
 pub mod Steps
 pub mod Sums

@@ -1,29 +1,13 @@
 -- A line that was read, and the lines after it. Assumes nothing.
--- to_come room left tag: the widths of lines that tell `left` bytes of ciphertext, of which the first takes `room` at the most, and a tag.
-use Rattle.std.proofs.Common.{◌≡◌, ℕ, ◌+◌, ◌-◌, ◌*◌, ◌<◌, min, List, [], ◌∷◌, ◌++◌, drop, Some, Ok, Err, ap, arith}
-use Rattle.sheetlines.proofs.Frames.{frames-more, fault_here, fault_later}
+use Rattle.std.proofs.Common.{◌≡◌, ℕ, ◌+◌, ◌*◌, List, ◌∷◌, drop, None, sym, ap, ◌∙◌}
+use Rattle.std.proofs.lemmas.List.{drop-drop}
 use Rattle.sheetlines.specs.Lines.{lines_size, fault_in, lines_fault}
-use Rattle.sheetlines.specs.Sheets.{later_frame, frames}
-use Rattle.sheetlines.specs.declared.fault.LineFault.{LineFault}
-use Rattle.sheetreader.specs.Readings.{line_answer}
-use Rattle.sheetreader.proofs.Answered.{fault_answered, next_answered}
-
-abbrev pub to_come : ℕ → ℕ → ℕ → List ℕ
-to_come room left tag = frames left room left ++ tag ∷ []
-
--- one line of ciphertext is the next
-pub to_come-more : (room left tag w : ℕ) → 0 < left → 0 < room → w ≡ min left room
-    → to_come room left tag ≡ w ∷ to_come later_frame (left - w) tag
-to_come-more room left tag w h r e = ap (λ (ws : List ℕ). ws ++ tag ∷ []) (frames-more left room w h r e)
+use Rattle.sheetlines.proofs.Widths.{fault_later}
 
 -- a line has no fault: the lines from the next on have the fault and the end that all of them have
-pub row_passed : (l w p next : ℕ) (ws text : List ℕ) → Ok next ≡ line_answer (fault_in l 1 (2 * w) (drop p text)) (p + 2 * w + 1)
-    → (lines_fault l (w ∷ ws) (drop p text) ≡ lines_fault (l + 1) ws (drop next text)) × (next + lines_size ws ≡ p + lines_size (w ∷ ws))
-row_passed l w p next ws text h =
-    let a = next_answered (fault_in l 1 (2 * w) (drop p text)) (p + 2 * w + 1) next h in
-    (fault_later l w p next ws text a.0 a.1, omega arith)
-
--- it has a fault: that is the first one of all
-pub row_faulty : (l w p : ℕ) (ws text : List ℕ) (e : LineFault) → Err e ≡ line_answer (fault_in l 1 (2 * w) (drop p text)) (p + 2 * w + 1)
-    → lines_fault l (w ∷ ws) (drop p text) ≡ Some e
-row_faulty l w p ws text e h = fault_here l w p ws text e (fault_answered (fault_in l 1 (2 * w) (drop p text)) (p + 2 * w + 1) e h)
+pub row_passed : (l m w : ℕ) (ws text rest : List ℕ) → fault_in l 1 (2 * w) text ≡ None → m ≡ l + 1 → rest ≡ drop (2 * w + 1) text
+    → (lines_fault m ws rest ≡ lines_fault l (w ∷ ws) text) × (drop (lines_size ws) rest ≡ drop (lines_size (w ∷ ws)) text)
+row_passed l m w ws text rest h em er = (
+  (λ i. lines_fault (em i) ws (er i)) ∙ sym (fault_later l w ws text h),
+  ap (drop (lines_size ws)) er ∙ drop-drop (lines_size ws) (2 * w + 1) text,
+)

@@ -1,5 +1,6 @@
 -- What reading a whole text answers, case by case: what was found in line 1, in the lines after it, and after them. Assumes nothing.
-use Rattle.std.proofs.Common.{◌≡◌, ℕ, ◌+◌, ◌^◌, ◌<◌, ◌≤◌, ltb, List, length, drop, Some, None, Ok, Err, sym, ap, ◌∙◌, arith}
+use Rattle.std.proofs.Common.{◌≡◌, ℕ, ◌+◌, ◌-◌, ◌^◌, ◌<◌, ◌≤◌, ltb, List, length, drop, Some, None, Ok, Err, sym, ap, ◌∙◌, arith}
+use Rattle.std.proofs.lemmas.List.{drop-drop, length-drop}
 use Rattle.std.proofs.lemmas.Bool.{cond-true, cond-false, lt-ltb, le-ltb}
 use Rattle.std.proofs.lemmas.Bool.Decides.{nat_tests}
 use Rattle.method.specs.Limits.{header_limit, message_limit}
@@ -48,14 +49,21 @@ module _ (text : List ℕ) (f : Fields) (first : fault_in 1 1 first_digits text 
 
     -- and no later line has a fault
     module _ (rest : lines_fault 2 (widths f) (drop header_at text) ≡ None) where
-      pub more_bytes : header_at + lines_size (widths f) < length text → Err MoreBytes ≡ sheet_answer text
-      more_bytes h =
-          let end = header_at + lines_size (widths f) in
-          sym (cond-true (ltb end (length text)) _ _ (lt-ltb end (length text) h))
-          ∙ ap (at_end f text) (sym rest) ∙ past_fields
+      -- then what is left of the text decides
+      module _ (left : List ℕ) (behind : left ≡ drop (lines_size (widths f)) (drop header_at text)) where
+        length-left : length left ≡ length text - (header_at + lines_size (widths f))
+        length-left =
+            ap length behind ∙ ap length (drop-drop (lines_size (widths f)) header_at text)
+            ∙ length-drop (header_at + lines_size (widths f)) text
 
-      pub no_more : length text ≤ header_at + lines_size (widths f) → Ok f ≡ sheet_answer text
-      no_more h =
-          let end = header_at + lines_size (widths f) in
-          sym (cond-false (ltb end (length text)) _ _ (le-ltb end (length text) h))
-          ∙ ap (at_end f text) (sym rest) ∙ past_fields
+        pub more_bytes : 0 < length left → Err MoreBytes ≡ sheet_answer text
+        more_bytes h =
+            let end = header_at + lines_size (widths f) in
+            sym (cond-true (ltb end (length text)) _ _ (lt-ltb end (length text) (omega (arith, length-left))))
+            ∙ ap (at_end f text) (sym rest) ∙ past_fields
+
+        pub no_more : length left ≡ 0 → Ok f ≡ sheet_answer text
+        no_more h =
+            let end = header_at + lines_size (widths f) in
+            sym (cond-false (ltb end (length text)) _ _ (le-ltb end (length text) (omega (arith, length-left))))
+            ∙ ap (at_end f text) (sym rest) ∙ past_fields

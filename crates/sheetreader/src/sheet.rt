@@ -1,17 +1,16 @@
 // The lines of a sheet, from line 1 to the text's end.
-ghost use Rattle.std.specs.Prelude.{◌≡◌, ◌+◌, ◌≤◌, length, drop};
+ghost use Rattle.std.specs.Prelude.{◌≡◌, ◌≤◌, length, drop, Some, None, IfOk, MatchResult};
 ghost use Rattle.blocks.specs.Blocks.{number};
-ghost use Rattle.method.specs.Limits.{header_limit, message_limit};
 ghost use Rattle.sheetlines.specs.Lines.{lines_fault, lines_size};
-ghost use Rattle.sheetlines.specs.Sheets.{first_digits, fields_of, field_fault, widths, header_at, sheet_answer};
-ghost use Rattle.sheetreader.specs.Readings.{line_answer};
+ghost use Rattle.sheetlines.specs.Sheets.{first_digits, fields_of, field_fault, widths, sheet_answer};
 
-use crate::line::read_line;
+use crate::line::Lines;
 use digits::codec::decode;
 use method::limits::{HEADER_LIMIT, MESSAGE_LIMIT, NONCE_END, TAG_LEAST, TAG_MOST};
 use sheetlines::fault::{Field, LineFault, SheetFault};
 use sheetlines::fields::Fields;
-use sheetlines::layout::{FIRST_BYTES, FIRST_DIGITS, FIRST_FRAME, HEADER_AT, LATER_FRAME};
+use sheetlines::frames::Frames;
+use sheetlines::layout::{FIRST_BYTES, FIRST_DIGITS};
 
 // The number that bytes are, the first the highest.
 fn number(bytes: &[u8]) -> u64
@@ -53,33 +52,26 @@ fn out_of_range(fields: Fields) -> Option<Field>
     if fields.header_len > HEADER_LIMIT {
         return Some(Field::HeaderLength);
     }
-    if fields.tag_len < TAG_LEAST || fields.tag_len > TAG_MOST {
+    if !(TAG_LEAST..=TAG_MOST).contains(&fields.tag_len) {
         return Some(Field::TagLength);
     }
     None
 }
 
-// Reads the lines after the first: where they end, or their first fault.
-fn read_rest(text: &[u8], fields: Fields) -> Result<usize, LineFault>
-    requires first { header_at ≤ length text.now }
-    requires message { fields.message_len ≤ message_limit }
-    requires header { fields.header_len ≤ header_limit }
-    requires tag { fields.tag_len ≤ 16 }
-    ensures { result ≡ line_answer (lines_fault 2 (widths fields) (drop header_at text.now))
-        (header_at + lines_size (widths fields)) }
+// Reads the lines after the first, or tells their first fault.
+fn read_rest(lines: &mut Lines<'_>, fields: Fields) -> Result<(), LineFault>
+    requires second { lines.old.line ≡ 2 }
+    requires in_range { field_fault fields ≡ None }
+    ensures fault { MatchResult result
+        (λ _. lines_fault 2 (widths fields) lines.old.rest.now ≡ None)
+        (λ e. lines_fault 2 (widths fields) lines.old.rest.now ≡ Some e) }
+    ensures rest { IfOk result (λ _. lines.new.rest.now ≡ drop (lines_size (widths fields)) lines.old.rest.now) }
 {
-    let mut at = read_line(text, HEADER_AT, 2, 2 * fields.header_len)?;
-    let mut line = 3;
-    let mut left = fields.message_len;
-    let mut room = FIRST_FRAME;
-    while left > 0 {
-        let width = left.min(room);
-        at = read_line(text, at, line, 2 * width)?;
-        line += 1;
-        left -= width;
-        room = LATER_FRAME;
+    lines.read(2 * fields.header_len)?;
+    for width in Frames::of(fields.message_len) {
+        lines.read(2 * width)?;
     }
-    read_line(text, at, line, 2 * fields.tag_len)
+    lines.read(2 * fields.tag_len)
 }
 
 // Reads a text as the lines of a sheet: what line 1 tells, or the text's first fault. Line 1 is judged before any other line is
@@ -87,13 +79,17 @@ fn read_rest(text: &[u8], fields: Fields) -> Result<usize, LineFault>
 pub fn read_sheet(text: &[u8]) -> Result<Fields, SheetFault>
     ensures answer { result ≡ sheet_answer text.now }
 {
-    read_line(text, 0, 1, FIRST_DIGITS)?;
+    let mut lines = Lines {
+        rest: text,
+        line: 1,
+    };
+    lines.read(FIRST_DIGITS)?;
     let fields = read_fields(text);
     if let Some(field) = out_of_range(fields) {
         return Err(SheetFault::OutOfRange(field));
     }
-    let end = read_rest(text, fields)?;
-    if end < text.len() {
+    read_rest(&mut lines, fields)?;
+    if !lines.rest.is_empty() {
         return Err(SheetFault::MoreBytes);
     }
     Ok(fields)

@@ -1,6 +1,7 @@
 -- Puts into a buffer one after another. Assumes nothing.
 use Rattle.std.proofs.Common.{◌≡◌, ℕ, ◌+◌, ◌<◌, ◌≤◌, List, [], ◌∷◌, ◌++◌, length, get_or, take, drop, set, sym, ap, ◌∙◌, arith}
 use Rattle.std.proofs.lemmas.List.{append_assoc, take-append-drop, length-append, length-take, take_at, drop_at, drop-drop, set_at, drop_more}
+use borrow.Rule.Slice.PartMut.{put_mid}
 use Rattle.sheetwriter.specs.Puts.{put}
 
 pub put_none : (d : List ℕ) (p : ℕ) → put d p [] ≡ d
@@ -37,13 +38,9 @@ put_one d p q s v e h =
     ∙ ap (λ (y : List ℕ). take p d ++ y) (sym (append_assoc s (v ∷ []) (drop (q + 1) d)))
     ∙ ap (λ n. take p d ++ ((s ++ v ∷ []) ++ drop n d)) (simp length-append (omega arith))
 
--- two bytes
-pub put_two : (d : List ℕ) (p q : ℕ) (s : List ℕ) (v w : ℕ) → q ≡ p + length s → q + 1 < length d
-    → set (set (put d p s) q v) (q + 1) w ≡ put d p (s ++ v ∷ w ∷ [])
-put_two d p q s v w e h =
-    ap (λ (y : List ℕ). set y (q + 1) w) (put_one d p q s v e (omega arith))
-    ∙ put_one d p (q + 1) (s ++ v ∷ []) w (simp length-append (omega arith)) h
-    ∙ ap (put d p) (append_assoc s (v ∷ []) (w ∷ []))
+-- bytes written over a part of the buffer
+pub put_part : (d s : List ℕ) (p k : ℕ) → k ≡ length s → put_mid p k d s ≡ put d p s
+put_part d s p k e = ap (λ (y : List ℕ). take p d ++ (s ++ y)) (drop-drop k p d ∙ ap (λ n. drop (p + n) d) e)
 
 -- bytes after those at the buffer's front
 pub put-after : (d o n s t : List ℕ) (q : ℕ) → o ≡ put d 0 s → q ≡ length s → q ≤ length d → n ≡ put o q t → n ≡ put d 0 (s ++ t)

@@ -3,7 +3,7 @@ ghost use Rattle.sheetwriter.specs.Writes.{write_told};
 use refusals::Refusal;
 
 // Why the lines of a sheet were not written.
-#[derive(Clone, Copy)]
+#[derive(Clone, Copy, Debug, PartialEq, Eq)]
 pub enum WriteFault {
     // the tag's length is outside 12 to 16
     TagLength,

@@ -6,7 +6,8 @@ ghost use Rattle.sheetlines.specs.Sheets.{header_at, frames_of, body_lines};
 ghost use Rattle.sheetwriter.specs.Puts.{put};
 
 use digits::codec::digits_of;
-use sheetlines::layout::{FIRST_FRAME, HEADER_AT, LATER_FRAME};
+use sheetlines::frames::Frames;
+use sheetlines::layout::HEADER_AT;
 
 // Puts bytes as a line, and tells where it ends.
 pub(crate) fn put_line(out: &mut [u8], at: usize, bytes: &[u8]) -> usize
@@ -14,32 +15,22 @@ pub(crate) fn put_line(out: &mut [u8], at: usize, bytes: &[u8]) -> usize
     ensures wrote { out.new ≡ put out.old at (line_of bytes.now) }
     ensures next { result ≡ at + 2 * length bytes.now + 1 }
 {
-    for i in 0..bytes.len() {
-        let pair = digits_of(bytes[i]);
-        out[at + 2 * i] = pair[0];
-        out[at + 2 * i + 1] = pair[1];
+    let mut end = at;
+    for byte in bytes {
+        out[end..end + 2].copy_from_slice(&digits_of(*byte));
+        end += 2;
     }
-    let end = at + 2 * bytes.len();
     out[end] = b'\n';
     end + 1
 }
 
-// How many bytes the lines of a ciphertext have.
+// How many bytes the lines of a ciphertext have: two digits a byte, and a line feed a line.
 fn body_size(message_len: usize) -> usize
     requires { message_len ≤ message_limit }
     ensures size { result ≡ lines_size (frames_of message_len) }
     ensures small { result ≤ 3 * message_len }
 {
-    let mut size = 0;
-    let mut left = message_len;
-    let mut room = FIRST_FRAME;
-    while left > 0 {
-        let width = left.min(room);
-        size += 2 * width + 1;
-        left -= width;
-        room = LATER_FRAME;
-    }
-    size
+    2 * message_len + Frames::of(message_len).count()
 }
 
 // How many bytes the lines of a sheet have.
@@ -60,13 +51,11 @@ pub(crate) fn put_body(out: &mut [u8], start: usize, ciphertext: &[u8]) -> usize
     ensures next { result ≡ start + lines_size (frames_of (length ciphertext.now)) }
 {
     let mut at = start;
-    let mut done = 0;
-    let mut room = FIRST_FRAME;
-    while done < ciphertext.len() {
-        let width = (ciphertext.len() - done).min(room);
-        at = put_line(out, at, &ciphertext[done..done + width]);
-        done += width;
-        room = LATER_FRAME;
+    let mut rest = ciphertext;
+    for width in Frames::of(ciphertext.len()) {
+        let (line, others) = rest.split_at(width);
+        at = put_line(out, at, line);
+        rest = others;
     }
     at
 }

@@ -1,8 +1,9 @@
 -- Orders to a mark store, as lines, and what they do. Assumes nothing.
 -- supply_of cs: what a text of power (8 digits), a space and leftover (2 digits) hands to a store.
 -- order_of cs: the order that a line gives, `raise` or `restart` with a supply.
+-- reply_text r: a reply as it is printed.
 -- order_answer o s, obeyed o s: what the store s answers to an order, and what it then is.
-use Rattle.std.specs.Prelude.{ℕ, cond, List, Some, None, Ok, Err, codes, Option}
+use Rattle.std.specs.Prelude.{ℕ, cond, List, ◌++◌, Some, None, Ok, Err, codes, decimal, Option}
 use Rattle.std.specs.Str.{bytes_eq}
 use Rattle.digits.specs.Digits.{number_of}
 use Rattle.refusals.specs.Answers.{Answer, answered}
@@ -45,6 +46,12 @@ some_mark (Err t) = Err t
 abbrev pub reply_answer : Reply → Answer (Option ℕ)
 reply_answer (reply.Raised r) = some_mark (answered raise_told r)
 reply_answer reply.Restarted = Ok None
+
+-- a reply, as it is printed
+abbrev pub reply_text : Reply → List ℕ
+reply_text (reply.Raised (Ok m)) = codes "raised from " ++ decimal m
+reply_text (reply.Raised (Err f)) = codes "refused " ++ decimal (raise_told f).0
+reply_text reply.Restarted = codes "restarted"
 
 abbrev pub order_answer : Order → Store → Answer (Option ℕ)
 order_answer order.Raise s = some_mark (raise_answer s)

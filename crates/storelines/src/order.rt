@@ -1,7 +1,9 @@
-ghost use Rattle.std.specs.Prelude.{◌≡◌};
-ghost use Rattle.storelines.specs.Orders.{order_of, reply_answer, order_answer, obeyed};
+ghost use Rattle.std.specs.Prelude.{◌≡◌, Some};
+ghost use Rattle.storelines.specs.Orders.{order_of, reply_answer, reply_text, order_answer, obeyed};
 
 use crate::supply;
+use refusals::Refusal;
+use std::fmt;
 use stores::fault::RaiseFault;
 use stores::store::MarkStore;
 use stores::supply::Supply;
@@ -20,6 +22,22 @@ pub enum Reply {
     // the mark, where the raise completed
     Raised(Result<u64, RaiseFault>),
     Restarted,
+}
+
+// As `raised from 3`, `refused 22` and `restarted`.
+impl fmt::Display for Reply {
+    ghost output = { λ r. Some (reply_text r) };
+
+    fn fmt<W: fmt::Write>(&self, f: &mut fmt::Formatter<W>) -> fmt::Result {
+        match self {
+            Reply::Raised(Ok(mark)) => write!(f, "raised from {mark}"),
+            Reply::Raised(Err(fault)) => {
+                let number = fault.number();
+                write!(f, "refused {number}")
+            }
+            Reply::Restarted => f.write_str("restarted"),
+        }
+    }
 }
 
 impl Order {

@@ -28,6 +28,7 @@ impl Running {
     }
 
     // Takes one byte; the sixteenth of a block ends it.
+    #[tactic(auto, using(crate::proofs::Runs::stepping))]
     fn step(&mut self, byte: u8)
         ensures { self.new ≡ stepped self.old byte }
     {
@@ -44,6 +45,7 @@ impl Running {
 
     // Takes the next bytes of the string. The second clause is the theorem on running hashes: the string may be cut into
     // pieces anywhere, and what is finished is its hash.
+    #[tactic(auto, using(crate::proofs::Runs::absorbing))]
     pub fn absorb(&mut self, bytes: &[u8])
         ensures value { self.new ≡ absorbed self.old bytes.now }
         ensures laws { Laws }
@@ -54,6 +56,7 @@ impl Running {
     }
 
     // Takes the padding's bytes and gives the hash of the whole string, whatever pieces it came in.
+    #[tactic(auto, using(crate::proofs::Runs::finishing))]
     pub fn finish(mut self) -> u128
         ensures value { result ≡ finished self }
         ensures whole { (m : List ℕ) → AllBytes m → self ≡ absorbed (started self.key) m → result ≡ hash self.key m }

@@ -1,21 +1,10 @@
 -- 128 turns move all terms of b into the sum, and then it is the product.
-use Rattle.std.proofs.Common.{◌≡◌, ℕ, zero, suc, ◌*◌, ◌/◌, ◌%◌, ◌^◌, ◌<◌, sym, ap, ◌∙◌, ap₂, one-mul, zero-mul, arith}
+use Rattle.std.proofs.Common.{◌≡◌, ℕ, ◌*◌, ◌/◌, ◌%◌, ◌^◌, ◌<◌, sym, ap, ◌∙◌, ap₂, arith}
 use lib.Bits.{bit_xor, bit_and, xor_assoc, xor_zero_r, and_mask}
 use Rattle.std.proofs.lemmas.Nat.{shr-shr}
 use Rattle.polynomials.specs.Polynomials.{product, times_x}
 use Rattle.polynomials.proofs.Products.{product_step, product_zero, product_laws, ring}
 use Rattle.polynomials.proofs.multiply.Goals as goal
-
--- a coefficient times a block is a block
-small : (p a : ℕ) → p < 2 → a < 2 ^ 128 → p * a < 2 ^ 128
-small zero a hp h = omega (arith, zero-mul a)
-small (suc zero) a hp h = omega (arith, one-mul a)
-small (suc (suc p)) a hp h = omega arith
-
-pub overflow_mul-sum : goal.overflow_mul-sum
-overflow_mul-sum c =
-    let p = c.loop in
-    omega (arith, small (bit_and p.rest 1) p.shifted (omega (arith, and_mask p.rest 1)) p.invariant.0)
 
 -- a turn moves the lowest term of the rest into the sum
 turn : (sum x m next : ℕ) → x < 2 ^ 128 → next ≡ times_x x →

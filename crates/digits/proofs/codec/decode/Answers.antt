@@ -36,6 +36,3 @@ returns-in_default c =
     let i = c.loop-byte.byte-index in
     let none : length (drop i u) ≡ 0 = sym (ap length c.loop-byte.invariant.left) ∙ length-map (iter_rest c.loop-byte.pairs) pair_value ∙ c.in_default.ensures.steps.0 in
     set-get_or c.loop-byte.out i 0 ∙ c.loop-byte.invariant.filled ∙ front_all u c.args.out.now i (omega (arith, length-drop i u))
-
-pub returns : goal.returns
-returns c = c.loop-byte.invariant.filled ∙ front_all (unhex c.args.text.now) c.args.out.now c.loop-byte.byte-index (omega arith)

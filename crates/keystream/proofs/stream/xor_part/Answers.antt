@@ -1,6 +1,5 @@
 -- The front is xored, and behind it is nothing of the block.
-use Rattle.std.proofs.Common.{ℕ, ◌<◌, length, take, ap, ◌∙◌, arith, rules}
-use Rattle.std.proofs.lemmas.List.{length-take-le}
+use Rattle.std.proofs.Common.{rules}
 use Rattle.keystream.proofs.Parts.{xored_front}
 use Rattle.keystream.proofs.stream.xor_part.Goals as goal
 

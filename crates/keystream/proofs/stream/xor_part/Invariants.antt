@@ -1,7 +1,6 @@
 -- A turn xors one byte more.
-use Rattle.std.proofs.Common.{◌≡◌, ℕ, ◌+◌, ◌<◌, ◌≤◌, length, get_or}
+use Rattle.std.proofs.Common.{◌≡◌, ℕ, ◌+◌, ◌<◌, ◌≤◌, get_or}
 use lib.Bits.{bit_xor}
-use Rattle.blocks.specs.Blocks.{bytes_of}
 use Rattle.keystream.proofs.stream.xor_part.Given as goal
 
 abbrev pub invariant-loop-k : goal.invariant-loop-k

@@ -1,47 +1,27 @@
--- A turn reads one line more, and takes its width from the front.
-use Rattle.std.proofs.Common.{ℕ, ◌+◌, ◌-◌, List, drop, Err, sym, ap, ◌∙◌, arith, lit<, lit≤}
-use Rattle.std.proofs.lemmas.Result.{err_from_is_err_and}
-use Rattle.sheetlines.specs.Lines.{lines_fault, lines_size}
-use Rattle.sheetlines.specs.Sheets.{first_frame, later_frame, widths, header_at}
-use Rattle.sheetreader.proofs.Answered.{answer_fault}
-use Rattle.sheetreader.proofs.Rows.{to_come, to_come-more, row_passed, row_faulty}
+-- After the header's line the ciphertext's lines are to come, and the tag's.
+use Rattle.std.proofs.Common.{◌≡◌, ℕ, ◌*◌, List, [], ◌∷◌, ◌++◌, length, drop, sym, ap, ◌∙◌, subst, arith}
+use Rattle.sheetlines.specs.Lines.{lines_size, fault_in, lines_fault}
+use Rattle.sheetlines.specs.Sheets.{frames_of}
+use Rattle.sheetlines.proofs.Widths.{Narrow, narrow_frames_of, size_frames_of}
+use Rattle.sheetreader.proofs.Rows.{row_passed}
+use Rattle.sheetreader.proofs.Whole.{in_range}
 use Rattle.sheetreader.proofs.sheet.read_rest.Goals as goal
 
-pub loop-left-init : goal.loop-left-init
-loop-left-init c =
+pub loop-width-init : goal.loop-width-init
+loop-width-init c =
     let f = c.args.fields in
-    let h = c.in_ok-at.ensures in
-    let ws = to_come first_frame f.message_len f.tag_len in
-    let s = row_passed 2 f.header_len header_at c.in_ok-at.at ws c.args.text.now h.answer in
-    (sym s.0, s.1, h.within, omega arith, lit< tt, lit≤ tt)
-
-pub returns-in_err-at-2 : goal.returns-in_err-at-2
-returns-in_err-at-2 c =
-    let f = c.args.fields in
-    let t = c.args.text.now in
-    let i = c.loop-left in
-    let w = c.min-width.result in
-    let e = c.in_err-at-2.field-0.0 in
-    let more = to_come-more i.room i.left f.tag_len w (omega arith) (omega arith) c.min-width.ensures in
-    let s = row_faulty i.line w i.at (to_come later_frame (i.left - w) f.tag_len) t e c.in_err-at-2.ensures.answer in
-    let p = err_from_is_err_and c.from_residual-in_err-at-2.result c.from_residual-in_err-at-2.ensures.1 in
-    p.1 ∙ ap (λ x. Err x) p.2
-    ∙ answer_fault (lines_fault 2 (widths f) (drop header_at t)) (header_at + lines_size (widths f)) e
-    (sym i.invariant.0 ∙ ap (λ (ws : List ℕ). lines_fault i.line ws (drop i.at t)) more ∙ s)
-
-pub loop-left-preserved : goal.loop-left-preserved
-loop-left-preserved c =
-    let f = c.args.fields in
-    let t = c.args.text.now in
-    let i = c.loop-left in
-    let w = c.min-width.result in
-    let h = c.in_ok-at-2.ensures in
-    let more = to_come-more i.room i.left f.tag_len w (omega arith) (omega arith) c.min-width.ensures in
-    let s = row_passed i.line w i.at c.in_ok-at-2.at (to_come later_frame (i.left - w) f.tag_len) t h.answer in (
-      sym s.0 ∙ ap (λ (ws : List ℕ). lines_fault i.line ws (drop i.at t)) (sym more) ∙ i.invariant.0,
-      s.1 ∙ ap (λ (ws : List ℕ). i.at + lines_size ws) (sym more) ∙ i.invariant.1,
-      h.within,
-      omega arith,
-      lit< tt,
-      lit≤ tt,
-    )
+    let t = c.args.lines.now.rest.now in
+    let h = c.in_ok-read.ensures in
+    let is : c.into_iter-width-iterator.result ≡ frames_of f.message_len = c.into_iter-width-iterator.ensures.into_iter_gives ∙ c.of-width-items.ensures in
+    let ws = frames_of f.message_len ++ f.tag_len ∷ [] in
+    let after = c.read.new.self in
+    let none = ap (λ l. fault_in l 1 (2 * f.header_len) t) (sym c.requires.second) ∙ h.fault in
+    let s = row_passed 2 after.line f.header_len ws t after.rest.now none (omega (arith, h.line, c.requires.second)) h.rest in
+    let r = in_range f c.requires.in_range in
+    record {
+      finite = tt;
+      fault = ap (λ (vs : List ℕ). lines_fault after.line (vs ++ f.tag_len ∷ []) after.rest.now) is ∙ s.0;
+      rest = ap (λ (vs : List ℕ). drop (lines_size (vs ++ f.tag_len ∷ [])) after.rest.now) is ∙ s.1;
+      number = omega (arith, (size_frames_of f.message_len).1, ap length is);
+      narrow = subst Narrow (sym is) (narrow_frames_of f.message_len);
+    }

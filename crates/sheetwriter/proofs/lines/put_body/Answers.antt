@@ -1,57 +1,37 @@
 -- A turn puts one line more.
-use Rattle.std.proofs.Common.{◌≡◌, ◌+◌, ◌-◌, length, take, drop, sym, ap, ◌∙◌, arith, lit<}
-use Rattle.std.proofs.lemmas.List.{length-take}
+use Rattle.std.proofs.Common.{◌≡◌, ◌+◌, length, List, ℕ, sym, ap, ◌∙◌, arith}
 use Rattle.sheetlines.specs.Lines.{lines_size}
-use Rattle.sheetlines.specs.Sheets.{first_frame, frames, body_lines}
+use Rattle.sheetlines.specs.Sheets.{frames_of, body_lines}
+use Rattle.sheetlines.proofs.Widths.{total, total_frames_of}
 use Rattle.sheetwriter.specs.Puts.{put}
-use Rattle.sheetwriter.proofs.Bodies.{rest_size, rest_more, body_again}
-use Rattle.sheetwriter.proofs.Puts.{put_none}
+use Rattle.sheetwriter.proofs.Bodies.{body_more}
 use Rattle.sheetwriter.proofs.lines.put_body.Goals as goal
 
-pub loop-done-init : goal.loop-done-init
-loop-done-init c =
+pub loop-width-init : goal.loop-width-init
+loop-width-init c =
     let cs = c.args.ciphertext.now in
-    let e : length cs - 0 ≡ length cs = omega arith in (
-      ap (λ k. put c.args.out.now c.args.start (body_lines (frames k first_frame k) cs)) e,
-      ap (λ k. c.args.start + lines_size (frames k first_frame k)) e,
-      omega arith,
-      lit< tt,
-    )
-
-pub put_line-at-requires : goal.put_line-at-requires
-put_line-at-requires c =
-    let cs = c.args.ciphertext.now in
-    let done = c.loop-done.done in
-    let w = c.min-width.result in
-    let more = (rest_more c.loop-done.room done w cs (omega arith) (omega arith) c.min-width.ensures).1 in
-    let l = length-take (done + w - done) (drop done cs) in
-    omega arith
-
-pub loop-done-preserved : goal.loop-done-preserved
-loop-done-preserved c =
-    let cs = c.args.ciphertext.now in
-    let room = c.loop-done.room in
-    let done = c.loop-done.done in
-    let w = c.min-width.result in
-    let part = take (done + w - done) (drop done cs) in
-    let e : done + w - done ≡ w = omega arith in
-    let more = (rest_more room done w cs (omega arith) (omega arith) c.min-width.ensures).1 in
-    let l = length-take (done + w - done) (drop done cs) in
-    let next = c.put_line-at.ensures.next in
-    let again = body_again c.loop-done.out c.put_line-at.new.out c.loop-done.at c.put_line-at.result done w room cs part
-    (omega arith) (omega arith) c.min-width.ensures (ap (λ k. take k (drop done cs)) e) c.put_line-at.ensures.wrote next (omega arith) in
-    (again ∙ c.loop-done.invariant.0, omega arith, omega arith, lit< tt)
-
-pub returns : goal.returns
-returns c =
-    let cs = c.args.ciphertext.now in
-    let out = c.loop-done.out in
-    let at = c.loop-done.at in
-    let e : length cs - c.loop-done.done ≡ 0 = omega arith in
+    let e : c.into_iter-width-iterator.result ≡ frames_of (length cs) = c.into_iter-width-iterator.ensures.into_iter_gives ∙ c.of-width-items.ensures in
     record {
-      wrote = sym (put_none out at)
-          ∙ ap (λ k. put out at (body_lines (frames k c.loop-done.room k) (drop c.loop-done.done cs))) (sym e)
-          ∙ c.loop-done.invariant.0;
-      next = let none : rest_size c.loop-done.room c.loop-done.done cs ≡ 0 = ap (λ k. lines_size (frames k c.loop-done.room k)) e in
-          omega arith;
+      finite = tt;
+      wrote = ap (λ (ws : List ℕ). put c.args.out.now c.args.start (body_lines ws cs)) e;
+      next = ap (λ ws. c.args.start + lines_size ws) e;
+      left = ap total e ∙ total_frames_of (length cs);
+    }
+
+pub loop-width-preserved : goal.loop-width-preserved
+loop-width-preserved c =
+    let before = c.loop-width.invariant in
+    let is = c.in-Some.ensures.steps in
+    let part = c.split_at.result.0.now in
+    let l : length part ≡ c.in-Some.width = c.split_at.ensures.front_len in
+    let t = ap total is in
+    let s = ap lines_size is in
+    record {
+      finite = tt;
+      wrote = body_more c.loop-width.out c.put_line-at.new.out c.loop-width.at c.put_line-at.result c.in-Some.width c.next.new.self
+          c.loop-width.rest.now part c.split_at.result.1.now c.split_at.ensures.front c.split_at.ensures.back
+          c.put_line-at.ensures.wrote c.put_line-at.ensures.next (omega arith)
+          ∙ ap (λ (ws : List ℕ). put c.loop-width.out c.loop-width.at (body_lines ws c.loop-width.rest.now)) (sym is) ∙ before.wrote;
+      next = omega arith;
+      left = omega arith;
     }
