@@ -26,7 +26,7 @@ fn answer(text: &[u8], out: &mut [u8]) -> usize
     ensures wrote { out.new ≡ on_front (sheetseal_text text.now) out.old }
 {
     match parse(text) {
-        Err(line) => put_told("bad line ", line, out),
+        Err(line) => put_told("bad line ", line.number(), out),
         Ok(lines) => match seal(lines, out) {
             Err(fault) => put_told("refused ", fault.number(), out),
             Ok(count) => count,
