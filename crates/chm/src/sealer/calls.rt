@@ -8,6 +8,7 @@ use crate::draft::Draft;
 use crate::fault::BeginFault;
 use crate::sealer::Sealer;
 use ciphers::cipher::Permutation;
+use method::limits::is_tag_length;
 use stores::fault::RaiseFault;
 use stores::store::MarkStore;
 use stores::supply::Supply;
@@ -16,7 +17,7 @@ use stores::supply::Supply;
 pub(crate) fn check_tag_len(tag_len: u8) -> Result<(), BeginFault>
     ensures { answered begin_told result ≡ tag_answer tag_len }
 {
-    if tag_len < 12 || tag_len > 16 {
+    if !is_tag_length(usize::from(tag_len)) {
         return Err(BeginFault::TagLength);
     }
     Ok(())
