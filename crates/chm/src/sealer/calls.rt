@@ -50,11 +50,10 @@ impl<C: Permutation, S: MarkStore> Sealer<C, S> {
         ensures after { sealer_standing S.meaning self.new ≡ issued (sealer_standing S.meaning self.old) }
         ensures cipher { self.new.cipher ≡ self.old.cipher }
     {
-        if let Some(mut batch) = self.batch {
-            if let Some(nonce) = batch.next() {
-                self.batch = Some(batch);
-                return Ok(nonce);
-            }
+        if let Some(batch) = &mut self.batch
+            && let Some(nonce) = batch.next()
+        {
+            return Ok(nonce);
         }
         let raised = self.store.raise();
         if let Err(RaiseFault::PowerFailed) = raised {
