@@ -7,7 +7,7 @@ use ciphers::fault::KeyFault;
 use refusals::Refusal;
 
 // Why an input was not sealed.
-#[derive(Clone, Copy)]
+#[derive(Clone, Copy, Debug, PartialEq, Eq)]
 pub(crate) enum InputFault {
     Key(KeyFault),
     Begin(BeginFault),
