@@ -10,6 +10,6 @@ loop-call-preserved c =
     let i = c.loop-call.invariant in (
       omega arith,
       omega arith,
-      rooms_more c.args.calls.now (vec_items c.loop-call.all) _ c.loop-call.call-index c.in_ok-buffer.buffer (Begin 0)
-          (omega (arith, c.loop-call.all.ok.0)) c.loop-call-test.true p.items c.in_ok-buffer.ensures i.2,
+      rooms_more c.args.calls.now (vec_items c.loop-call.all) _ c.loop-call.call-index c.in_ok-buffer_for.field-0 (Begin 0)
+          (omega (arith, c.loop-call.all.ok.0)) c.loop-call-test.true p.items c.in_ok-buffer_for.ensures i.2,
     )

@@ -18,7 +18,7 @@ loop-i-init g c =
     let m = g.S.MarkStore.meaning in
     let s = c.new-sealer.result in
     let stands = c.new-sealer.ensures.stands in (
-      reached_none (g.C.BlockCipher.image s.cipher) (m s.store) _ _ _ (ap (map said) r.items) (stands ∙ ap (λ x. standing x.store true None) (sym stands)) d.items,
+      reached_none (g.C.Permutation.image s.cipher) (m s.store) _ _ _ (ap (map said) r.items) (stands ∙ ap (λ x. standing x.store true None) (sym stands)) d.items,
       refl,
       omega arith,
       omega arith,
@@ -31,22 +31,22 @@ loop-i-init g c =
 pub loop-i-preserved : goal.loop-i-preserved
 loop-i-preserved g c =
     let i = c.loop-i.invariant in
-    let a = c.answer-reply.ensures in
+    let a = c.answer.ensures in
     let p = c.push_reserved.ensures in
     let m = g.S.MarkStore.meaning in
-    let image = g.C.BlockCipher.image in
+    let image = g.C.Permutation.image in
     let calls = c.args.calls.now in
     let n = c.loop-i.i in
     let first = c.new-sealer.result in
     let was = sealer_standing m c.loop-i.sealer in
-    let is = sealer_standing m c.answer-reply.new.sealer in
+    let is = sealer_standing m c.answer.new.sealer in
     let ds = vec_items c.loop-i.drafts in
-    let ds' = vec_items c.answer-reply.new.drafts in
+    let ds' = vec_items c.answer.new.drafts in
     let call = asked (get_or calls n (Begin 0)) in
-    let reply = c.answer-reply.result in
+    let reply = c.answer.result in
     let answered : Answered (image first.cipher) was ds call (said reply) is ds' = subst (λ k. Answered (image k) was ds call (said reply) is ds') i.1 a.answered in (
       reached_more (image first.cipher) (m first.store) (map asked (take n calls)) _ (map said (vec_items c.loop-i.replies)) _ was is ds ds' call (said reply)
-          (g.S.MarkStore.lawful first.store) i.0 answered (map_more asked calls n (Begin 0) c.loop-i-test.true)
+          (g.met.S.MarkStore.lawful first.store) i.0 answered (map_more asked calls n (Begin 0) c.loop-i-test.true)
           (ap (map said) p.items ∙ map_push said (vec_items c.loop-i.replies) reply),
       a.cipher ∙ i.1,
       omega arith,
@@ -61,13 +61,13 @@ pub returns : goal.returns
 returns g c =
     let i = c.loop-i.invariant in
     let m = g.S.MarkStore.meaning in
-    let image = g.C.BlockCipher.image in
+    let image = g.C.Permutation.image in
     let calls = c.args.calls.now in
     let first = c.new-sealer.result in
     let rs = map said (vec_items c.loop-i.replies) in
     let all = take_all c.loop-i.i calls c.loop-i-test.false in
     let over : m first.store ≡ m c.args.store = ap (λ s. s.store) c.new-sealer.ensures.stands in
-    let done = reached_all (image first.cipher) (m first.store) (map asked (take c.loop-i.i calls)) rs _ _ (g.met.C.BlockCipher.apart first.cipher) (g.S.MarkStore.lawful first.store) i.0 in
+    let done = reached_all (image first.cipher) (m first.store) (map asked (take c.loop-i.i calls)) rs _ _ (g.met.C.Permutation.apart first.cipher) (g.met.S.MarkStore.lawful first.store) i.0 in
     subst (λ k. Histories (image k) (m c.args.store) (map asked calls) rs) c.new-sealer.ensures.cipher
     (subst (λ s. Histories (image first.cipher) s (map asked calls) rs) over
     (subst (λ l. Histories (image first.cipher) (m first.store) (map asked l) rs) all done))

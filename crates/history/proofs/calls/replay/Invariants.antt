@@ -8,7 +8,7 @@ use Rattle.history.proofs.calls.replay.Given as goal
 
 abbrev pub invariant-loop-i : goal.invariant-loop-i
 invariant-loop-i g l =
-    Reached (g.C.BlockCipher.image l.initial.sealer.cipher) (sealer_standing g.S.MarkStore.meaning l.initial.sealer).store
+    Reached (g.C.Permutation.image l.initial.sealer.cipher) (sealer_standing g.S.MarkStore.meaning l.initial.sealer).store
     (map asked (take l.i l.calls)) (map said (vec_items l.replies))
     (sealer_standing g.S.MarkStore.meaning l.sealer) (vec_items l.drafts)
     × (l.sealer.cipher ≡ l.initial.sealer.cipher)
