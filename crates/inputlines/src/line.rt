@@ -23,6 +23,8 @@ pub fn are_bytes(text: &[u8]) -> bool
     text.len() % 2 == 0 && text.iter().all(|c| digit_value(*c as char).is_some())
 }
 
+// The three calls below read a line in one shape; one call over a closure would need a contract by what the closure gives, and be no shorter.
+
 // The cipher that the first line names, and what stands behind the line; `None` where there is no such line.
 pub fn name_line(text: &[u8]) -> Option<(Name, &[u8])>
     ensures { MatchOption result (line_as name_of text.now ≡ None)

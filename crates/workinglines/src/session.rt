@@ -22,7 +22,7 @@ const NONCE_DIGITS: usize = 16;
 
 const INDEX_DIGITS: usize = 8;
 
-// Nonces have 63 bits.
+// Nonces have 63 bits. The limit of `method` is the same, but nothing else of that crate is needed here.
 const NONCE_END: u128 = 1 << 63;
 
 // What a line is answered with.
