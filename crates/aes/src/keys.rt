@@ -41,9 +41,9 @@ pub(crate) fn expand(key: [u8; 16]) -> [RoundKey; 11]
         columns: from_block(key),
     };
     let mut keys = [k; 11];
-    for i in 0..10 {
-        let next = next_round_key(ROUND_CONSTANTS[i], k.columns);
-        k = RoundKey { columns: next };
+    for (i, constant) in ROUND_CONSTANTS.iter().enumerate() {
+        let columns = next_round_key(*constant, k.columns);
+        k = RoundKey { columns };
         keys[i + 1] = k;
     }
     keys

@@ -5,7 +5,7 @@ ghost use Rattle.aes.specs.Cipher.{aes_128};
 ghost use Rattle.aes.specs.Keyed.{keys_image, held};
 ghost use Rattle.aes.specs.Images.{image-block, image-apart};
 
-use ciphers::cipher::BlockCipher;
+use ciphers::cipher::{BlockCipher, Permutation};
 use ciphers::fault::KeyFault;
 use keys::expand;
 use rounds::encipher;
@@ -27,22 +27,25 @@ pub struct Aes128 {
     keys: [RoundKey; 11],
 }
 
-impl BlockCipher for Aes128 {
-    ghost bytes = { 16 };
-
-    const KEY_BYTES: usize = 16;
-
-    fn key_len() -> usize {
-        Self::KEY_BYTES
-    }
-
+impl Permutation for Aes128 {
     ghost image = { λ c. keys_image c.keys };
 
-    ghost standard = { aes_128 };
+    fn image_of(&self, block: u128) -> u128 {
+        let state = from_block(blocks::to_bytes(block));
+        blocks::from_bytes(to_block(encipher(&self.keys, state)))
+    }
 
     ghost block = { λ c b h. image-block (held c.keys) b };
 
     ghost apart = { λ c a b ha hb e. image-apart (held c.keys) a b ha hb e };
+}
+
+impl BlockCipher for Aes128 {
+    ghost KEY_BYTES = { 16 };
+
+    const KEY_BYTES: usize = 16;
+
+    ghost standard = { aes_128 };
 
     fn with_zero_key() -> Aes128 {
         Aes128 {
@@ -58,10 +61,5 @@ impl BlockCipher for Aes128 {
         bytes.copy_from_slice(key);
         self.keys = expand(bytes);
         Ok(())
-    }
-
-    fn image_of(&self, block: u128) -> u128 {
-        let state = from_block(blocks::to_bytes(block));
-        blocks::from_bytes(to_block(encipher(&self.keys, state)))
     }
 }

@@ -24,8 +24,8 @@ pub(crate) fn encipher(keys: &[RoundKey; 11], s: [[u8; 4]; 4]) -> [[u8; 4]; 4]
     ensures { result ≡ cipher (held keys.now) s }
 {
     let mut t = add_round_key(keys[0].columns, s);
-    for i in 1..10 {
-        let next = round(keys[i].columns, t);
+    for key in &keys[1..10] {
+        let next = round(key.columns, t);
         t = next;
     }
     final_round(keys[10].columns, t)

@@ -2,6 +2,7 @@
 use Rattle.std.proofs.Common.{◌≡◌, ℕ, zero, suc, ◌+◌, ◌*◌, ◌/◌, ◌%◌, ◌^◌, ◌<◌, ◌≤◌, List, [], ◌∷◌, length, get_or, sym, refl, ap, ◌∙◌, add-zero, add_assoc, mul-le-mul_right, mod-eq_of_lt, mul_assoc, add-mul, zero-add, zero-mul, mul-one, arith}
 use native.Mathlib.Nat.{mod-one, pow-zero, pow-succ'}
 use lib.Arith.{mod-mul}
+use Rattle.std.proofs.Math.Nat.{one-le-pow}
 use Rattle.blocks.specs.Blocks.{number, number_from, bytes_of, AllBytes}
 
 -- numbers of as many bytes that are equal have equal fronts and equal bytes
@@ -33,14 +34,10 @@ unfolding bytes_of
 length-bytes_of zero x = refl
 length-bytes_of (suc n) x = ap suc (length-bytes_of n x)
 
-pow256_pos : (n : ℕ) → 0 < 256 ^ n
-pow256_pos zero = rw pow-zero (omega arith)
-pow256_pos (suc n) = rw pow-succ' (omega (arith, pow256_pos n))
-
 -- a byte more in front: both sides split off the highest byte
 front-more : (m n x : ℕ) → (m * 256 + x / 256 ^ n % 256) * 256 ^ n + x % 256 ^ n ≡ m * 256 ^ suc n + x % 256 ^ suc n
 front-more m n x =
-    let p = pow256_pos n in
+    let p = one-le-pow n 256 (omega arith) in
     let d : x % (256 * 256 ^ n) ≡ (x / 256 ^ n % 256) * 256 ^ n + x % 256 ^ n = mod-mul x (omega arith) p in
     rw (pow-succ' 256 n, d, add-mul (m * 256) (x / 256 ^ n % 256) (256 ^ n), mul_assoc m 256 (256 ^ n)) (add_assoc (m * (256 * 256 ^ n)) ((x / 256 ^ n % 256) * 256 ^ n) (x % 256 ^ n))
 

@@ -1,10 +1,7 @@
 -- Maps of bytes that keep xor: times x, and what is built of it. Assumes nothing.
-use mathlib.Core.Path.{◌≡◌, refl, sym, ap, ◌∙◌}
-use Prim.Native.Nat.{ℕ, zero, suc, ◌+◌, ◌*◌, ◌/◌, ◌%◌, ◌<◌}
-use native.Mathlib.Nat.{add-zero}
-use native.Mathlib.Omega.{arith}
-use lib.Bits.{bit_xor, xor_lt, xor_mod, xor_shr, xor_block}
-use Rattle.blocks.proofs.Xors.{xor_middle}
+use Rattle.std.proofs.Common.{◌≡◌, ℕ, ◌*◌, ◌/◌, ◌%◌, ◌<◌, refl, ap, ap₂, ◌∙◌, mul_comm, arith}
+use lib.Bits.{bit_xor, xor_lt, xor_mod, xor_shr}
+use Rattle.blocks.proofs.Xors.{xor_middle, xor_doubled, xor_bits}
 use Rattle.bytefield.specs.Field.{times_x}
 
 pub record Additive (f : ℕ → ℕ) : Type 0 where
@@ -26,27 +23,12 @@ additive_sum f g F G = record {
   small = λ a h. xor_lt 8 (f a) (g a) (F.small a h) (G.small a h);
 }
 
--- a bit chooses whether 1b hexadecimal is added
-chosen : (p q : ℕ) → p < 2 → q < 2 → bit_xor p q * 0x1b ≡ bit_xor (p * 0x1b) (q * 0x1b)
-chosen zero zero hp hq = refl
-chosen zero (suc zero) hp hq = refl
-chosen (suc zero) zero hp hq = refl
-chosen (suc zero) (suc zero) hp hq = refl
-chosen zero (suc (suc q)) hp hq = omega arith
-chosen (suc zero) (suc (suc q)) hp hq = omega arith
-chosen (suc (suc p)) q hp hq = omega arith
-
-xor_double : (a b : ℕ) → bit_xor a b * 2 ≡ bit_xor (a * 2) (b * 2)
-xor_double a b =
-    let e : bit_xor (a * 2 + 0) (b * 2 + 0) ≡ bit_xor a b * 2 + 0 = xor_block 1 a b 0 0 (omega arith) (omega arith) in
-    simp add-zero at (sym e)
-
 times_x_adds : (a b : ℕ) → a < 256 → b < 256 → times_x (bit_xor a b) ≡ bit_xor (times_x a) (times_x b)
 times_x_adds a b ha hb =
     let low : (bit_xor a b * 2) % 256 ≡ bit_xor ((a * 2) % 256) ((b * 2) % 256) =
-    ap (λ n. n % 256) (xor_double a b) ∙ xor_mod (a * 2) (b * 2) 8 in
+    ap (λ n. n % 256) (mul_comm (bit_xor a b) 2 ∙ xor_doubled a b ∙ ap₂ bit_xor (mul_comm 2 a) (mul_comm 2 b)) ∙ xor_mod (a * 2) (b * 2) 8 in
     let high : bit_xor a b / 128 * 0x1b ≡ bit_xor (a / 128 * 0x1b) (b / 128 * 0x1b) =
-    ap (λ n. n * 0x1b) (xor_shr a b 7) ∙ chosen (a / 128) (b / 128) (omega arith) (omega arith) in
+    ap (λ n. n * 0x1b) (xor_shr a b 7) ∙ xor_bits (a / 128) (b / 128) 0x1b (omega arith) (omega arith) in
     (λ i. bit_xor (low i) (high i)) ∙ xor_middle ((a * 2) % 256) ((b * 2) % 256) (a / 128 * 0x1b) (b / 128 * 0x1b)
 
 pub times_x_additive : Additive times_x

@@ -3,7 +3,7 @@
 -- times_x a: x times a.
 -- product a b: the product of two bytes.
 -- inverse a: the byte whose product with a is 1, and 0 for 0.
-use Rattle.std.specs.Prelude.{Bool, cond, ℕ, zero, suc, ◌*◌, ◌/◌, ◌%◌, eqb}
+use Rattle.std.specs.Prelude.{Bool, if◌then◌else◌, ℕ, zero, suc, ◌*◌, ◌/◌, ◌%◌, eqb}
 use Rattle.std.specs.Int.Bits.{bit_xor}
 
 -- a shift to the left; the coefficient that x^8 gets is replaced by x^4 + x^3 + x + 1, which is 1b hexadecimal
@@ -21,7 +21,7 @@ product a b = times_low 8 a b
 -- the highest number below n that passes the test, or 0 where none does
 unfoldable pub found_below : (ℕ → Bool) → ℕ → ℕ
 found_below test zero = 0
-found_below test (suc n) = cond (test n) n (found_below test n)
+found_below test (suc n) = if test n then n else found_below test n
 
 unfoldable pub inverse : ℕ → ℕ
 inverse a = found_below (λ b. eqb (product a b) 1) 256

@@ -7,6 +7,8 @@ use Rattle.std.specs.Str.{bytes_eq}
 use Rattle.blocks.specs.Blocks.{bytes_of}
 use Rattle.keystream.specs.Counters.{block_at, const0, const1}
 use Rattle.method.proofs.Closed.{tag_is}
+use Rattle.method.proofs.Kept.{limits_kept}
+use Rattle.method.specs.Sheets.{limits_answer}
 use Rattle.method.specs.Limits.{header_limit, message_limit, tag_differs}
 use Rattle.method.specs.Published.{crypt, tag_block}
 use Rattle.polyhash.specs.Hash.{hash}
@@ -39,6 +41,13 @@ pub answer_is : (E : ℕ → ℕ) (N x y : ℕ) (h c t : List ℕ) (r : Answer (
 answer_is E N x y h c t r ex ey er a b n u v =
     er ∙ ap (λ z. tag_answer (tag_block z y (block_at E N 0)) t) ex ∙ ap (λ z. tag_answer (tag_block (hash (E const0) c) z (block_at E N 0)) t) ey
     ∙ sym (check_is E N h c t a b n u v)
+
+-- the same where the tests of the limits let the sheet through
+pub checked_by : (E : ℕ → ℕ) (N x y : ℕ) (h c t : List ℕ) (r : Answer (Unit {0})) → Ok tt ≡ limits_answer N (length h) (length c) (length t)
+    → x ≡ hash (E const0) c → y ≡ hash (E const1) h → r ≡ tag_answer (tag_block x y (block_at E N 0)) t → r ≡ check_answer E N h c t
+checked_by E N x y h c t r l ex ey er =
+    let k = (limits_kept N (length h) (length c) (length t) (Ok tt) tt (sym l)).0 in
+    answer_is E N x y h c t r ex ey er k.least k.most k.nonce k.header k.message
 
 -- r compares a tag with the front of the bytes f
 pub compared : (r : Bool) (f t : List ℕ) → Decides r (take (length t) f ≡ t) → bytes_eq (take (length t) f) t ≡ r

@@ -4,19 +4,17 @@
 -- read_answer c o n, read_out E N c o out: what a read of n bytes from offset o answers, and what it leaves in the buffer.
 use Rattle.std.specs.Prelude.{ℕ, ◌+◌, cond, List, length, take, drop, Some, None, Ok, Err, Option, Result, nat_le}
 use Rattle.keystream.specs.Counters.{ciphered}
-use Rattle.method.specs.Limits.{header_limit, message_limit, tag_fits, nonce_fits, header_too_long, message_too_long, bad_tag_length, bad_nonce, past_end, tag_differs}
+use Rattle.method.specs.Limits.{limit_told, past_end, tag_differs}
 use Rattle.method.specs.Published.{decryption}
+use Rattle.method.specs.Sheets.{within}
 use Rattle.refusals.specs.Answers.{Told, Answer}
 use Rattle.checks.specs.declared.fault.CheckFault.{CheckFault}
-use Rattle.checks.specs.declared.fault.CheckFault.TheVariants.{TagLength, Nonce, HeaderTooLong, MessageTooLong, TagDiffers}
+use Rattle.checks.specs.declared.fault.CheckFault.TheVariants.{Limit, TagDiffers}
 use Rattle.checks.specs.declared.fault.ReadFault.{ReadFault}
 use Rattle.checks.specs.declared.fault.ReadFault.TheVariants.{PastEnd}
 
 abbrev pub check_told : CheckFault → Told
-check_told TagLength = bad_tag_length
-check_told Nonce = bad_nonce
-check_told HeaderTooLong = header_too_long
-check_told MessageTooLong = message_too_long
+check_told (Limit f) = limit_told f
 check_told TagDiffers = tag_differs
 
 abbrev pub read_told : ReadFault → Told
@@ -32,16 +30,9 @@ abbrev pub not_rejected : Option (List ℕ) → Answer (Unit {0})
 not_rejected None = Err tag_differs
 not_rejected (Some m) = Ok tt
 
--- the tests in their order: the tag's length, the nonce, the header's length, the message's, and last the tag
+-- the tests in their order: the limits of the tag, the nonce, the header and the message, and last the tag
 abbrev pub check_answer : (ℕ → ℕ) → ℕ → List ℕ → List ℕ → List ℕ → Answer (Unit {0})
-check_answer E N h c t =
-    cond (tag_fits (length t))
-    (cond (nonce_fits N)
-    (cond (nat_le (length h) header_limit)
-    (cond (nat_le (length c) message_limit) (not_rejected (decryption E N h c t)) (Err message_too_long))
-    (Err header_too_long))
-    (Err bad_nonce))
-    (Err bad_tag_length)
+check_answer E N h c t = within N (length h) (length c) (length t) (not_rejected (decryption E N h c t))
 
 abbrev pub read_answer : List ℕ → ℕ → ℕ → Answer (Unit {0})
 read_answer c o n = cond (nat_le (o + n) (length c)) (Ok tt) (Err past_end)

@@ -1,27 +1,32 @@
+ghost use Rattle.std.specs.Prelude.{◌≡◌};
 ghost use Rattle.checks.specs.Checks.{check_told, read_told};
+ghost use Rattle.checks.specs.declared.fault.CheckFault.TheVariants.{Limit};
 
+use method::limits::LimitFault;
 use refusals::Refusal;
 
 // Why a sheet was not accepted.
-#[derive(Clone, Copy)]
+#[derive(Clone, Copy, Debug, PartialEq, Eq)]
 pub enum CheckFault {
-    // the tag's length is outside 12 to 16
-    TagLength,
-    // the nonce is 2^63 or more
-    Nonce,
-    // the header passes 4,096 bytes
-    HeaderTooLong,
-    // the message passes 1,048,576 bytes
-    MessageTooLong,
+    // a limit that the sheet does not keep
+    Limit(LimitFault),
     // the tag is not the sheet's
     TagDiffers,
 }
 
 // Why a checked sheet was not read.
-#[derive(Clone, Copy)]
+#[derive(Clone, Copy, Debug, PartialEq, Eq)]
 pub enum ReadFault {
     // the read would pass the end
-    PastEnd,
+    PastEnd = 6,
+}
+
+impl From<LimitFault> for CheckFault {
+    ghost from_gives = { λ e r. r ≡ Limit e };
+
+    fn from(e: LimitFault) -> CheckFault {
+        CheckFault::Limit(e)
+    }
 }
 
 impl Refusal for CheckFault {
@@ -29,10 +34,7 @@ impl Refusal for CheckFault {
 
     fn number(&self) -> u8 {
         match self {
-            CheckFault::TagLength => 4,
-            CheckFault::Nonce => 5,
-            CheckFault::HeaderTooLong => 1,
-            CheckFault::MessageTooLong => 2,
+            CheckFault::Limit(fault) => fault.number(),
             CheckFault::TagDiffers => 15,
         }
     }
@@ -42,8 +44,6 @@ impl Refusal for ReadFault {
     ghost told = { read_told };
 
     fn number(&self) -> u8 {
-        match self {
-            ReadFault::PastEnd => 6,
-        }
+        *self as u8
     }
 }

@@ -4,15 +4,11 @@ use lib.Bits.{bit_xor}
 use Rattle.std.proofs.lemmas.Bool.{ne_eqb, eq-eqb, cases_eq}
 use Rattle.blocks.specs.Blocks.{bytes_of}
 use Rattle.keystream.proofs.Counts.{map_counting_same}
+use Rattle.keystream.proofs.Parts.{masked}
 use Rattle.keystream.specs.Counters.{mask, block_at, stream_byte, ciphered}
 use Rattle.chm.proofs.Keeps.{turned_same}
-use Rattle.chm.specs.Words.{key_words, more, block_under, turned, steps, step_byte, held, sent}
+use Rattle.chm.specs.Words.{key_words, more, turned, steps, step_byte, held, sent}
 use Rattle.chm.specs.declared.words.KeyWords.{KeyWords}
-
--- a block under the mask of its frame
-pub under : (E : ℕ → ℕ) (N v i : ℕ) → v ≡ mask E N (i / 256) → block_under E N v i ≡ block_at E N i
-unfolding block_under block_at
-under E N v i e = rw e refl
 
 module _ (E : ℕ → ℕ) (N : ℕ) where
   pub held_some : (m : ℕ) → 0 < m → held E N m ≡ key_words m (mask E N ((1 + (m - 1) / 16) / 256)) (block_at E N (1 + (m - 1) / 16))
@@ -34,7 +30,7 @@ module _ (E : ℕ → ℕ) (N : ℕ) where
       more 1 (turned E N w) ≡ last_of w.len
   unfolding turned last_of
   fresh w h v =
-      rw (eq-eqb (w.len % 16) 0 h, v) (ap (key_words (w.len + 1) (mask E N ((1 + w.len / 16) / 256))) (under E N _ (1 + w.len / 16) refl))
+      rw (eq-eqb (w.len % 16) 0 h, v) (ap (key_words (w.len + 1) (mask E N ((1 + w.len / 16) / 256))) (masked E N (1 + w.len / 16) _ _ refl refl))
 
   step_some : (m : ℕ) → 0 < m → more 1 (turned E N (key_words m (mask E N ((1 + (m - 1) / 16) / 256)) (block_at E N (1 + (m - 1) / 16)))) ≡ last_of m
   unfolding last_of

@@ -1,5 +1,5 @@
 -- The words that a draft holds, over pieces and within a block. Assumes nothing.
-use Rattle.std.proofs.Common.{◌≡◌, ℕ, zero, suc, ◌+◌, ◌-◌, ◌%◌, ◌<◌, ◌≤◌, Bool, true, false, cond, eqb, get_or, refl, ap, ◌∙◌, add-one, arith}
+use Rattle.std.proofs.Common.{◌≡◌, ℕ, zero, suc, ◌+◌, ◌-◌, ◌%◌, ◌<◌, ◌≤◌, Bool, true, false, cond, eqb, get_or, sym, refl, ap, ◌∙◌, add-one, arith}
 use Rattle.std.proofs.lemmas.Bool.{ne_eqb}
 use Rattle.blocks.specs.Blocks.{bytes_of}
 use Rattle.chm.specs.Words.{key_words, more, turned, steps, step_byte}
@@ -47,13 +47,13 @@ module _ (E : ℕ → ℕ) (N : ℕ) where
   steps_part w zero u h = let z : ⊥ = omega arith in absurd z
   steps_part w (suc n) u h = steps-run w n h
 
-  -- the byte at k, of a part that begins at `at`
-  pub part_byte : (s : KeyWords) (at end k : ℕ) → at ≤ k → k < end → (s.len + at) % 16 + (end - at) ≤ 16 →
-      step_byte E N s k ≡ get_or (bytes_of 16 (turned E N (steps E N s at)).word) ((s.len + at) % 16 + (k - at)) 0
-  part_byte s at end k u v h =
-      let e : k + 1 ≡ at + (k - at + 1) = omega arith in
-      let r : (s.len + k) % 16 ≡ (s.len + at) % 16 + (k - at) = omega arith in
-      ap (λ i. get_or (bytes_of 16 (steps E N s (k + 1)).word) i 0) r
-      ∙ ap (λ x. get_or (bytes_of 16 x.word) ((s.len + at) % 16 + (k - at)) 0)
-      (ap (steps E N s) e ∙ steps_add s at (k - at + 1)
-      ∙ steps_part (steps E N s at) (k - at + 1) (omega arith) (omega (arith, steps_len s at)))
+  -- within one block, the bytes from `at` on are those of one keystream block
+  pub part_byte : (s : KeyWords) (at k : ℕ) → (s.len + at) % 16 + k < 16 →
+      get_or (bytes_of 16 (turned E N (steps E N s at)).word) ((s.len + at) % 16 + k) 0 ≡ step_byte E N s (at + k)
+  part_byte s at k h =
+      let e : at + k + 1 ≡ at + (k + 1) = omega arith in
+      let r : (s.len + (at + k)) % 16 ≡ (s.len + at) % 16 + k = omega arith in
+      sym (ap (λ i. get_or (bytes_of 16 (steps E N s (at + k + 1)).word) i 0) r
+      ∙ ap (λ x. get_or (bytes_of 16 x.word) ((s.len + at) % 16 + k) 0)
+      (ap (steps E N s) e ∙ steps_add s at (k + 1)
+      ∙ steps_part (steps E N s at) (k + 1) (omega arith) (omega (arith, steps_len s at))))

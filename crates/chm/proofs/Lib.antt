@@ -1,5 +1,4 @@
 pub mod Helds
 pub mod Keeps
-pub mod Parts
 pub mod Pieces
 pub mod Sealings

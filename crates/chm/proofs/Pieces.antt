@@ -60,9 +60,9 @@ ciphered_bytes E N o m b = all_bytes (ciphered E N o m) (λ i h.
 accepted : {X : Type 0} (r : Answer (Unit {0})) (x y : X) → r ≡ Ok tt → if_accepted r x y ≡ x
 accepted r x y e = ap (λ s. if_accepted s x y) e
 
-same_draft : (n t k0 k1 b : ℕ) (w v : KeyWords) (c d : Running) (l m : ℕ) (h i : Running) → w ≡ v → c ≡ d → l ≡ m → h ≡ i
-    → draft n t k0 k1 b w c l h ≡ draft n t k0 k1 b v d m i
-same_draft n t k0 k1 b w v c d l m h i p q r s = rw (p, q, r, s) refl
+same_draft : (n t b : ℕ) (w v : KeyWords) (c d : Running) (l m : ℕ) (h i : Running) → w ≡ v → c ≡ d → l ≡ m → h ≡ i
+    → draft n t b w c l h ≡ draft n t b v d m i
+same_draft n t b w v c d l m h i p q r s = rw (p, q, r, s) refl
 
 module _ (E : ℕ → ℕ) (N t : ℕ) (h m p : List ℕ) where
   joined : ciphered E N 0 (m ++ p) ≡ ciphered E N 0 m ++ sent E N (held E N (length m)) p
@@ -75,7 +75,7 @@ module _ (E : ℕ → ℕ) (N t : ℕ) (h m p : List ℕ) where
   head_joins fits =
       accepted (head_answer (words_of E N t h m) p) _ (words_of E N t h m)
       (ap (λ b. cond b (Ok tt) (Err header_too_long)) (le-leb (length h + length p) header_limit fits))
-      ∙ same_draft N t _ _ _ _ _ _ _ _ _ _ _ refl refl (sym (length-append h p)) (absorbed_append (E const1) started h p)
+      ∙ same_draft N t _ _ _ _ _ _ _ _ _ refl refl (sym (length-append h p)) (absorbed_append (started (E const1)) h p)
 
   body-taken : length m + length p ≤ message_limit → body_answer (words_of E N t h m) p (length p) ≡ Ok tt
   body-taken fits =
@@ -86,8 +86,8 @@ module _ (E : ℕ → ℕ) (N t : ℕ) (h m p : List ℕ) where
   body_joins : length m + length p ≤ message_limit → bodied E (words_of E N t h m) p (length p) ≡ words_of E N t h (m ++ p)
   body_joins fits =
       accepted (body_answer (words_of E N t h m) p (length p)) _ (words_of E N t h m) (body-taken fits)
-      ∙ same_draft N t _ _ _ _ _ _ _ _ _ _ _ (steps-held E N (length m) (length p) ∙ ap (held E N) (sym (length-append m p)))
-      (absorbed_append (E const0) started (ciphered E N 0 m) _ ∙ ap (absorbed (E const0) started) (sym joined)) refl refl
+      ∙ same_draft N t _ _ _ _ _ _ _ _ _ (steps-held E N (length m) (length p) ∙ ap (held E N) (sym (length-append m p)))
+      (absorbed_append (started (E const0)) (ciphered E N 0 m) _ ∙ ap (absorbed (started (E const0))) (sym joined)) refl refl
 
   writes_join : N < 2 ^ 63 → length m + length p ≤ message_limit → crypt E N (m ++ p) ≡ crypt E N m ++ sent E N (held E N (length m)) p
   writes_join n fits =

@@ -1,6 +1,7 @@
 -- Drafts, by the words that they hold. Every definition says for every draft, whatever its words, what a call makes of it.
 -- Assumes nothing.
 -- words_of E N t h m: the draft of nonce N and tag length t whose header so far is h and whose message so far is m.
+-- header_answer, message_answer: what is said of the lengths of header or message, piece and output.
 -- head_answer, headed: what a piece of header is answered, and the draft after it.
 -- body_answer, bodied, body_out: likewise for a piece of message, with the buffer after it.
 -- sealed: what finish gives.
@@ -28,41 +29,45 @@ abbrev pub body_told : BodyFault → Told
 body_told LengthsDiffer = lengths_differ
 body_told MessageTooLong = message_too_long
 
--- the two hash keys, and the keystream's first block
-abbrev pub draft : ℕ → ℕ → ℕ → ℕ → ℕ → KeyWords → Running → ℕ → Running → Draft
-draft n t k0 k1 b w c l h =
-    record { nonce = n; tag_len = t; body_key = k0; head_key = k1; first = b; words = w; body_hash = c; head_len = l; head_hash = h }
+-- the keystream's first block is kept for the tag
+abbrev pub draft : ℕ → ℕ → ℕ → KeyWords → Running → ℕ → Running → Draft
+draft n t b w c l h = record { nonce = n; tag_len = t; first = b; words = w; body_hash = c; head_len = l; head_hash = h }
 
 abbrev pub words_of : (ℕ → ℕ) → ℕ → ℕ → List ℕ → List ℕ → Draft
 words_of E N t h m =
-    draft N t (E const0) (E const1) (block_at E N 0) (held E N (length m)) (absorbed (E const0) started (ciphered E N 0 m)) (length h)
-    (absorbed (E const1) started h)
+    draft N t (block_at E N 0) (held E N (length m)) (absorbed (started (E const0)) (ciphered E N 0 m)) (length h)
+    (absorbed (started (E const1)) h)
 
 -- what is left where a call was accepted, and where it was refused
 abbrev pub if_accepted : {X : Type 0} → Answer (Unit {0}) → X → X → X
 if_accepted (Ok u) x y = x
 if_accepted (Err e) x y = y
 
+-- of a header of l bytes, and a piece of n
+abbrev pub header_answer : ℕ → ℕ → Answer (Unit {0})
+header_answer l n = cond (nat_le (l + n) header_limit) (Ok tt) (Err header_too_long)
+
 abbrev pub head_answer : Draft → List ℕ → Answer (Unit {0})
-head_answer d p = cond (nat_le (d.head_len + length p) header_limit) (Ok tt) (Err header_too_long)
+head_answer d p = header_answer d.head_len (length p)
 
 abbrev pub headed : Draft → List ℕ → Draft
 headed d p =
     if_accepted (head_answer d p)
-    (draft d.nonce d.tag_len d.body_key d.head_key d.first d.words d.body_hash (d.head_len + length p)
-    (absorbed d.head_key d.head_hash p))
+    (draft d.nonce d.tag_len d.first d.words d.body_hash (d.head_len + length p) (absorbed d.head_hash p))
     d
 
--- room is the length of the output
+-- of a message of l bytes, a piece of n, and an output of so many bytes as room says
+abbrev pub message_answer : ℕ → ℕ → ℕ → Answer (Unit {0})
+message_answer l n room = cond (room == n) (cond (nat_le (l + n) message_limit) (Ok tt) (Err message_too_long)) (Err lengths_differ)
+
 abbrev pub body_answer : Draft → List ℕ → ℕ → Answer (Unit {0})
-body_answer d p room =
-    cond (room == length p) (cond (nat_le (d.words.len + length p) message_limit) (Ok tt) (Err message_too_long)) (Err lengths_differ)
+body_answer d p room = message_answer d.words.len (length p) room
 
 abbrev pub bodied : (ℕ → ℕ) → Draft → List ℕ → ℕ → Draft
 bodied E d p room =
     if_accepted (body_answer d p room)
-    (draft d.nonce d.tag_len d.body_key d.head_key d.first (steps E d.nonce d.words (length p))
-    (absorbed d.body_key d.body_hash (sent E d.nonce d.words p)) d.head_len d.head_hash)
+    (draft d.nonce d.tag_len d.first (steps E d.nonce d.words (length p))
+    (absorbed d.body_hash (sent E d.nonce d.words p)) d.head_len d.head_hash)
     d
 
 abbrev pub body_out : (ℕ → ℕ) → Draft → List ℕ → List ℕ → List ℕ
@@ -79,6 +84,6 @@ sealed d =
       tag_len = d.tag_len;
       tag =
           tag_then_zeros
-          (tag_block (finished d.body_key d.body_hash) (finished d.head_key d.head_hash) d.first)
+          (tag_block (finished d.body_hash) (finished d.head_hash) d.first)
           d.tag_len;
     }

@@ -1,6 +1,7 @@
 -- A sealer, and what begin and restart make of it. Assumes nothing.
 -- Standing: what a sealer is at one moment: its store's meaning, live or down, and its batch or none.
 -- issue_answer, issued: the next nonce, or what the raise reports; and the sealer after it.
+-- tag_answer: what is said of a tag length.
 -- begin_answer, begun: what begin answers for a tag length, and the sealer after it.
 -- restarted_sealer: the sealer after a restart.
 use Rattle.std.specs.Prelude.{ℕ, ◌+◌, ◌*◌, Bool, true, false, cond, ◌&&◌, [], Some, None, Ok, Err, Option, nat_lt}
@@ -80,6 +81,9 @@ issued s =
 abbrev pub drafted : (ℕ → ℕ) → ℕ → Answer ℕ → Answer Draft
 drafted E t (Ok n) = Ok (words_of E n t [] [])
 drafted E t (Err e) = Err e
+
+abbrev pub tag_answer : ℕ → Answer (Unit {0})
+tag_answer t = cond (tag_fits t) (Ok tt) (Err bad_tag_length)
 
 -- the tag's length is tested first, then whether the sealer is down, and then what the raise reports
 abbrev pub begin_answer : (ℕ → ℕ) → Standing → ℕ → Answer Draft

@@ -7,7 +7,7 @@
 use Rattle.std.specs.Prelude.{ℕ, zero, suc, ◌+◌, ◌-◌, ◌/◌, ◌%◌, cond, ◌||◌, List, map, length, ◌==◌, bit_xor, slice_index}
 use Rattle.std.specs.List.{range_with_len}
 use Rattle.blocks.specs.Blocks.{bytes_of}
-use Rattle.keystream.specs.Counters.{counter, mask, block_counter, block_at}
+use Rattle.keystream.specs.Counters.{mask, block_under, block_at}
 use Rattle.chm.specs.declared.words.KeyWords.{KeyWords}
 
 abbrev pub key_words : ℕ → ℕ → ℕ → KeyWords
@@ -19,10 +19,6 @@ more n w = key_words (w.len + n) w.veil w.word
 -- the mask for keystream block i: drawn at the message's start and at a frame's first block, and kept otherwise
 abbrev pub veil_for : (ℕ → ℕ) → ℕ → KeyWords → ℕ → ℕ
 veil_for E N w i = cond (w.len == 0 || i % 256 == 0) (mask E N (i / 256)) w.veil
-
--- keystream block i under the mask v
-unfoldable pub block_under : (ℕ → ℕ) → ℕ → ℕ → ℕ → ℕ
-block_under E N v i = bit_xor (E (counter N (block_counter i))) v
 
 unfoldable pub turned : (ℕ → ℕ) → ℕ → KeyWords → KeyWords
 turned E N w =

@@ -6,8 +6,6 @@ use polyhash::running::Running;
 pub struct Draft {
     nonce: u64,
     tag_len: u8,
-    body_key: u128,
-    head_key: u128,
     first: u128,
     words: KeyWords,
     body_hash: Running,
@@ -15,8 +13,9 @@ pub struct Draft {
     head_hash: Running,
 }
 
-// What finish gives: the nonce, the tag's length, and sixteen bytes, the tag and then zeros.
-#[derive(Drop)]
+// What finish gives: the nonce, the tag's length, and sixteen bytes, the tag and then zeros: the form that sealed parts are handed on in.
+// It has no ==: two tags are compared byte for byte to the end, by the crate checks alone.
+#[derive(Debug, Drop)]
 pub struct Sealed {
     pub nonce: u64,
     pub tag_len: u8,

@@ -3,34 +3,32 @@ ghost use Rattle.chm.specs.Drafts.{head_told, body_told};
 ghost use Rattle.chm.specs.Sealers.{begin_told};
 ghost use Rattle.chm.specs.Seals.{seal_told};
 ghost use Rattle.chm.specs.declared.fault.BeginFault.TheVariants.{Raise};
-ghost use Rattle.chm.specs.declared.fault.SealFault.TheVariants.{Begin};
+ghost use Rattle.chm.specs.declared.fault.SealFault.TheVariants.{Begin, Head, Body};
 
 use refusals::Refusal;
 use stores::fault::RaiseFault;
 
 // Why a piece of header was not taken.
-#[derive(Clone, Copy)]
+#[derive(Clone, Copy, Debug, PartialEq, Eq)]
 pub enum HeadFault {
     // the header would pass 4,096 bytes
-    HeaderTooLong,
+    HeaderTooLong = 1,
 }
 
 // Why a piece of message was not taken.
-#[derive(Clone, Copy)]
+#[derive(Clone, Copy, Debug, PartialEq, Eq)]
 pub enum BodyFault {
     // the output has another length than the piece
-    LengthsDiffer,
+    LengthsDiffer = 3,
     // the message would pass 1,048,576 bytes
-    MessageTooLong,
+    MessageTooLong = 2,
 }
 
 impl Refusal for HeadFault {
     ghost told = { head_told };
 
     fn number(&self) -> u8 {
-        match self {
-            HeadFault::HeaderTooLong => 1,
-        }
+        *self as u8
     }
 }
 
@@ -38,15 +36,12 @@ impl Refusal for BodyFault {
     ghost told = { body_told };
 
     fn number(&self) -> u8 {
-        match self {
-            BodyFault::LengthsDiffer => 3,
-            BodyFault::MessageTooLong => 2,
-        }
+        *self as u8
     }
 }
 
 // Why no draft was handed out.
-#[derive(Clone, Copy)]
+#[derive(Clone, Copy, Debug, PartialEq, Eq)]
 pub enum BeginFault {
     // the tag's length is outside 12 to 16
     TagLength,
@@ -77,7 +72,7 @@ impl Refusal for BeginFault {
 }
 
 // Why nothing was sealed in one call.
-#[derive(Clone, Copy)]
+#[derive(Clone, Copy, Debug, PartialEq, Eq)]
 pub enum SealFault {
     Begin(BeginFault),
     Head(HeadFault),
@@ -89,6 +84,22 @@ impl From<BeginFault> for SealFault {
 
     fn from(e: BeginFault) -> SealFault {
         SealFault::Begin(e)
+    }
+}
+
+impl From<HeadFault> for SealFault {
+    ghost from_gives = { λ e r. r ≡ Head e };
+
+    fn from(e: HeadFault) -> SealFault {
+        SealFault::Head(e)
+    }
+}
+
+impl From<BodyFault> for SealFault {
+    ghost from_gives = { λ e r. r ≡ Body e };
+
+    fn from(e: BodyFault) -> SealFault {
+        SealFault::Body(e)
     }
 }
 

@@ -1,8 +1,9 @@
 -- A cipher that is chosen by its name. Assumes nothing.
 -- name_of cs: the cipher that the text cs names.
+-- word_of n: the text that names n.
 -- key_bytes n, standard_of n: the length of the named cipher's keys, and the function that its standard gives for a key.
 -- chosen_image c: the function that a chosen cipher means.
-use Rattle.std.specs.Prelude.{ℕ, cond, List, Some, None, codes, Option}
+use Rattle.std.specs.Prelude.{ℕ, if◌then◌else◌, List, Some, None, codes, Option}
 use Rattle.std.specs.Str.{bytes_eq}
 use Rattle.ciphers.specs.Practices.{practice, xor_image}
 use Rattle.aes.specs.Cipher.{aes_128}
@@ -16,9 +17,15 @@ use Rattle.cipherlines.specs.declared.chosen.Chosen.TheVariants as chosen
 
 abbrev pub name_of : List ℕ → Option Name
 name_of cs =
-    cond (bytes_eq cs (codes "practice")) (Some name.Practice)
-    (cond (bytes_eq cs (codes "aes")) (Some name.Aes)
-    (cond (bytes_eq cs (codes "speck")) (Some name.Speck) None))
+    if bytes_eq cs (codes "practice") then Some name.Practice
+    else if bytes_eq cs (codes "aes") then Some name.Aes
+    else if bytes_eq cs (codes "speck") then Some name.Speck
+    else None
+
+abbrev pub word_of : Name → List ℕ
+word_of name.Practice = codes "practice"
+word_of name.Aes = codes "aes"
+word_of name.Speck = codes "speck"
 
 abbrev pub key_bytes : Name → ℕ
 key_bytes name.Practice = 16

@@ -1,8 +1,8 @@
 -- A session with ciphers: a name, a key, blocks, and an empty line before the next name. Assumes nothing.
 -- State: where a session stands.
--- reply_to s line, next_state s line: what the session answers to a line, and where it then stands. A line that is bad or
--- refused leaves it where it was.
-use Rattle.std.specs.Prelude.{ℕ, cond, List, length, Some, None, Option, ◌==◌}
+-- reply_to s line, next_state s line: what the session answers to a line, which is none where the line is bad, and where it then
+-- stands. A line that is bad or refused leaves it where it was.
+use Rattle.std.specs.Prelude.{ℕ, if◌then◌else◌, List, length, Some, None, Option, Ok, Err, ◌==◌}
 use Rattle.ciphers.specs.declared.fault.KeyFault.TheVariants.{WrongLength}
 use Rattle.digits.specs.Digits.{digits_bytes, number_of}
 use Rattle.cipherlines.specs.Chosen.{name_of, key_bytes, standard_of, chosen_image}
@@ -27,22 +27,22 @@ stage_state (stage.Enciphering c) = enciphering (chosen_image c)
 abbrev pub session_state : Session → State
 session_state s = stage_state s.stage
 
-abbrev pub name_reply : Option Name → Reply
-name_reply None = reply.Bad
-name_reply (Some n) = reply.Named n
+abbrev pub name_reply : Option Name → Option Reply
+name_reply None = None
+name_reply (Some n) = Some (reply.Named n)
 
-abbrev pub key_reply : Name → Option (List ℕ) → Reply
-key_reply n None = reply.Bad
-key_reply n (Some key) = cond (length key == key_bytes n) (reply.Made n) (reply.Refused WrongLength)
+abbrev pub key_reply : Name → Option (List ℕ) → Option Reply
+key_reply n None = None
+key_reply n (Some key) = Some (reply.Keyed (if length key == key_bytes n then Ok n else Err WrongLength))
 
-abbrev pub block_reply : (ℕ → ℕ) → Option ℕ → Reply
-block_reply f None = reply.Bad
-block_reply f (Some b) = reply.Image b (f b)
+abbrev pub block_reply : (ℕ → ℕ) → Option ℕ → Option Reply
+block_reply f None = None
+block_reply f (Some b) = Some (reply.Image b (f b))
 
-abbrev pub reply_to : State → List ℕ → Reply
+abbrev pub reply_to : State → List ℕ → Option Reply
 reply_to naming line = name_reply (name_of line)
 reply_to (keying n) line = key_reply n (digits_bytes line)
-reply_to (enciphering f) line = cond (length line == 0) reply.Ended (block_reply f (number_of 32 line))
+reply_to (enciphering f) line = if length line == 0 then Some reply.Ended else block_reply f (number_of 32 line)
 
 abbrev pub after_name : Option Name → State
 after_name None = naming
@@ -50,9 +50,9 @@ after_name (Some n) = keying n
 
 abbrev pub after_key : Name → Option (List ℕ) → State
 after_key n None = keying n
-after_key n (Some key) = cond (length key == key_bytes n) (enciphering (standard_of n key)) (keying n)
+after_key n (Some key) = if length key == key_bytes n then enciphering (standard_of n key) else keying n
 
 abbrev pub next_state : State → List ℕ → State
 next_state naming line = after_name (name_of line)
 next_state (keying n) line = after_key n (digits_bytes line)
-next_state (enciphering f) line = cond (length line == 0) naming (enciphering f)
+next_state (enciphering f) line = if length line == 0 then naming else enciphering f

@@ -1,60 +1,84 @@
-ghost use Rattle.std.specs.Prelude.{◌≡◌};
-ghost use Rattle.std.specs.Str.{bytes_eq};
+ghost use Rattle.std.specs.Prelude.{◌≡◌, Some};
+ghost use Rattle.std.specs.Result.{result_ok};
 ghost use Rattle.refusals.specs.Answers.{answered};
 ghost use Rattle.ciphers.specs.Keys.{key_told, made_answer, meant};
-ghost use Rattle.cipherlines.specs.Chosen.{name_of, key_bytes, standard_of, chosen_image};
+ghost use Rattle.cipherlines.specs.Chosen.{name_of, word_of, key_bytes, standard_of, chosen_image};
+ghost use Rattle.cipherlines.specs.Permutes.{image-block, image-apart};
 
-use ciphers::cipher::BlockCipher;
+use aes::Aes128;
+use ciphers::cipher::Permutation;
 use ciphers::fault::KeyFault;
 use ciphers::generic::under_key;
+use ciphers::practice::Practice;
+use speck::Speck128_256;
+use std::fmt;
+use std::str::FromStr;
 
 // The ciphers that have a name.
-#[derive(Clone, Copy)]
+#[derive(Clone, Copy, Debug, PartialEq, Eq)]
 pub enum Name {
     Practice,
     Aes,
     Speck,
 }
 
+// A text that names no cipher.
+#[derive(Clone, Copy, Debug, PartialEq, Eq)]
+pub struct UnknownName;
+
 // A cipher of any of these names.
 #[derive(Clone, Copy)]
 pub enum Chosen {
-    Practice(ciphers::practice::Practice),
-    Aes(aes::Aes128),
-    Speck(speck::Speck128_256),
+    Practice(Practice),
+    Aes(Aes128),
+    Speck(Speck128_256),
 }
 
-fn same_bytes(text: &[u8], word: &str) -> bool
-    ensures { result ≡ bytes_eq text.now word.now }
-{
-    text == word.as_bytes()
+// The cipher that a text names, if any.
+impl FromStr for Name {
+    type Err = UnknownName;
+
+    ghost from_str_gives = { λ cs r. result_ok r ≡ name_of cs };
+
+    fn from_str(text: &str) -> Result<Name, UnknownName> {
+        match text {
+            "practice" => Ok(Name::Practice),
+            "aes" => Ok(Name::Aes),
+            "speck" => Ok(Name::Speck),
+            _ => Err(UnknownName),
+        }
+    }
+}
+
+// The same, of a text in bytes.
+impl TryFrom<&[u8]> for Name {
+    type Error = UnknownName;
+
+    ghost try_from_gives = { λ t r. result_ok r ≡ name_of t.now };
+
+    fn try_from(text: &[u8]) -> Result<Name, UnknownName> {
+        str::from_utf8(text).map_err(|_| UnknownName)?.parse()
+    }
+}
+
+impl fmt::Display for Name {
+    ghost output = { λ n. Some (word_of n) };
+
+    fn fmt<W: fmt::Write>(&self, f: &mut fmt::Formatter<W>) -> fmt::Result {
+        f.write_str(self.word())
+    }
 }
 
 impl Name {
-    // The cipher that a text names, if any.
-    pub fn from_text(text: &str) -> Option<Name>
-        ensures { result ≡ name_of text.now }
+    // The text that names the cipher.
+    pub fn word(self) -> &'static str
+        ensures text { result.now ≡ word_of self }
+        ensures read { name_of result.now ≡ Some self }
     {
-        match text {
-            "practice" => Some(Name::Practice),
-            "aes" => Some(Name::Aes),
-            "speck" => Some(Name::Speck),
-            _ => None,
-        }
-    }
-
-    // The same, of a text in bytes.
-    pub fn from_bytes(text: &[u8]) -> Option<Name>
-        ensures { result ≡ name_of text.now }
-    {
-        if same_bytes(text, "practice") {
-            Some(Name::Practice)
-        } else if same_bytes(text, "aes") {
-            Some(Name::Aes)
-        } else if same_bytes(text, "speck") {
-            Some(Name::Speck)
-        } else {
-            None
+        match self {
+            Name::Practice => "practice",
+            Name::Aes => "aes",
+            Name::Speck => "speck",
         }
     }
 
@@ -63,22 +87,25 @@ impl Name {
         ensures { answered key_told (meant chosen_image result) ≡ made_answer (key_bytes self) (standard_of self) key.now }
     {
         match self {
-            Name::Practice => Ok(Chosen::Practice(under_key::<ciphers::practice::Practice>(key)?)),
-            Name::Aes => Ok(Chosen::Aes(under_key::<aes::Aes128>(key)?)),
-            Name::Speck => Ok(Chosen::Speck(under_key::<speck::Speck128_256>(key)?)),
+            Name::Practice => under_key::<Practice>(key).map(Chosen::Practice),
+            Name::Aes => under_key::<Aes128>(key).map(Chosen::Aes),
+            Name::Speck => under_key::<Speck128_256>(key).map(Chosen::Speck),
         }
     }
 }
 
-impl Chosen {
-    // The image of a block.
-    pub fn image_of(&self, block: u128) -> u128
-        ensures { result ≡ chosen_image self.now block }
-    {
+impl Permutation for Chosen {
+    ghost image = { chosen_image };
+
+    fn image_of(&self, block: u128) -> u128 {
         match self {
             Chosen::Practice(cipher) => cipher.image_of(block),
             Chosen::Aes(cipher) => cipher.image_of(block),
             Chosen::Speck(cipher) => cipher.image_of(block),
         }
     }
+
+    ghost block = { image-block };
+
+    ghost apart = { image-apart };
 }

@@ -1,28 +1,25 @@
-ghost use Rattle.std.specs.Prelude.{◌≡◌, MatchResult};
-ghost use Rattle.cipherlines.specs.Sessions.{session_state, reply_to, next_state, keying, naming, enciphering};
+ghost use Rattle.std.specs.Prelude.{◌≡◌, Some, MatchResult};
+ghost use Rattle.cipherlines.specs.Sessions.{session_state, reply_to, next_state, key_reply, after_key, keying, naming, enciphering};
 ghost use Rattle.cipherlines.specs.Chosen.{chosen_image};
 
 use crate::chosen::{Chosen, Name};
+use ciphers::cipher::Permutation;
 use ciphers::fault::KeyFault;
 use std::alloc::{AllocError, Global};
 
 const BLOCK_DIGITS: usize = 32;
 
 // What a line is answered with.
-#[derive(Clone, Copy)]
+#[derive(Clone, Copy, Debug, PartialEq, Eq)]
 pub enum Reply {
     // the line names a cipher
     Named(Name),
-    // the line is a key, and the cipher is made of it
-    Made(Name),
-    // the line is a key that the cipher refuses
-    Refused(KeyFault),
+    // the line is a key, and the cipher is made of it or refuses it
+    Keyed(Result<Name, KeyFault>),
     // the line is a block
     Image { block: u128, image: u128 },
     // the line is empty: another cipher may be named
     Ended,
-    // the line is none that can stand here
-    Bad,
 }
 
 #[derive(Clone, Copy)]
@@ -49,65 +46,63 @@ impl Session {
         }
     }
 
-    // The answer to a line; want of memory leaves the session where it was.
-    pub fn feed(&mut self, heap: Global, line: &str) -> Result<Reply, AllocError>
+    // The answer to a line, `None` where it is none that can stand here; want of memory leaves the session where it was.
+    pub fn feed(&mut self, heap: Global, line: &str) -> Result<Option<Reply>, AllocError>
         ensures { MatchResult result (λ reply. (reply ≡ reply_to (session_state self.old) line.now) × (session_state self.new ≡ next_state (session_state self.old) line.now)) (λ _. session_state self.new ≡ session_state self.old) }
     {
         match self.stage {
             Stage::Naming => Ok(self.feed_name(line)),
-            Stage::Keying(name) => {
-                let reply = self.feed_key(heap, name, line)?;
-                Ok(reply)
-            }
+            Stage::Keying(name) => self.feed_key(heap, name, line),
             Stage::Enciphering(cipher) => Ok(self.feed_block(cipher, line)),
         }
     }
 
-    fn feed_name(&mut self, line: &str) -> Reply
+    fn feed_name(&mut self, line: &str) -> Option<Reply>
         requires { session_state self.old ≡ naming }
         ensures reply { result ≡ reply_to naming line.now }
         ensures after { session_state self.new ≡ next_state naming line.now }
     {
-        match Name::from_text(line) {
-            Some(name) => {
-                self.stage = Stage::Keying(name);
-                Reply::Named(name)
-            }
-            None => Reply::Bad,
-        }
+        let name = line.parse().ok()?;
+        self.stage = Stage::Keying(name);
+        Some(Reply::Named(name))
     }
 
-    fn feed_key(&mut self, heap: Global, name: Name, line: &str) -> Result<Reply, AllocError>
+    fn feed_key(
+        &mut self,
+        heap: Global,
+        name: Name,
+        line: &str,
+    ) -> Result<Option<Reply>, AllocError>
         requires { session_state self.old ≡ keying name }
         ensures { MatchResult result (λ reply. (reply ≡ reply_to (keying name) line.now) × (session_state self.new ≡ next_state (keying name) line.now)) (λ _. session_state self.new ≡ session_state self.old) }
     {
         let Some(key) = digits::bytes(heap, line.as_bytes())? else {
-            return Ok(Reply::Bad);
+            return Ok(None);
         };
-        match name.under_key(key.as_slice()) {
-            Ok(cipher) => {
-                self.stage = Stage::Enciphering(cipher);
-                Ok(Reply::Made(name))
-            }
-            Err(fault) => Ok(Reply::Refused(fault)),
-        }
+        Ok(Some(Reply::Keyed(self.set_key(name, &key))))
     }
 
-    fn feed_block(&mut self, cipher: Chosen, line: &str) -> Reply
+    fn set_key(&mut self, name: Name, key: &[u8]) -> Result<Name, KeyFault>
+        requires { session_state self.old ≡ keying name }
+        ensures reply { Some (Reply.Keyed result) ≡ key_reply name (Some key.now) }
+        ensures after { session_state self.new ≡ after_key name (Some key.now) }
+    {
+        let cipher = name.under_key(key)?;
+        self.stage = Stage::Enciphering(cipher);
+        Ok(name)
+    }
+
+    fn feed_block(&mut self, cipher: Chosen, line: &str) -> Option<Reply>
         requires { session_state self.old ≡ enciphering (chosen_image cipher) }
         ensures reply { result ≡ reply_to (enciphering (chosen_image cipher)) line.now }
         ensures after { session_state self.new ≡ next_state (enciphering (chosen_image cipher)) line.now }
     {
         if line.is_empty() {
             self.stage = Stage::Naming;
-            return Reply::Ended;
+            return Some(Reply::Ended);
         }
-        match digits::number(line.as_bytes(), BLOCK_DIGITS) {
-            Some(block) => {
-                let image = cipher.image_of(block);
-                Reply::Image { block, image }
-            }
-            None => Reply::Bad,
-        }
+        let block = digits::number(line.as_bytes(), BLOCK_DIGITS)?;
+        let image = cipher.image_of(block);
+        Some(Reply::Image { block, image })
     }
 }

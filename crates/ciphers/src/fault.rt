@@ -3,18 +3,16 @@ ghost use Rattle.ciphers.specs.Keys.{key_told};
 use refusals::Refusal;
 
 // Why a cipher was not made.
-#[derive(Clone, Copy)]
+#[derive(Clone, Copy, Debug, PartialEq, Eq)]
 pub enum KeyFault {
     // the key has not the length that its cipher states
-    WrongLength,
+    WrongLength = 7,
 }
 
 impl Refusal for KeyFault {
     ghost told = { key_told };
 
     fn number(&self) -> u8 {
-        match self {
-            KeyFault::WrongLength => 7,
-        }
+        *self as u8
     }
 }

@@ -2,7 +2,7 @@ ghost use Rattle.std.specs.Prelude.{◌≡◌};
 ghost use Rattle.ciphers.specs.Practices.{practice, xor_image};
 ghost use Rattle.ciphers.specs.Practiced.{xor_image-block, xor_image-apart};
 
-use crate::cipher::BlockCipher;
+use crate::cipher::{BlockCipher, Permutation};
 use crate::fault::KeyFault;
 
 // The cipher for exercises: the image of a block is the block xor the key. It keeps nothing secret, and is lawful.
@@ -11,22 +11,24 @@ pub struct Practice {
     key: u128,
 }
 
-impl BlockCipher for Practice {
-    ghost bytes = { 16 };
-
-    const KEY_BYTES: usize = 16;
-
-    fn key_len() -> usize {
-        Self::KEY_BYTES
-    }
-
+impl Permutation for Practice {
     ghost image = { λ c. xor_image c.key };
 
-    ghost standard = { practice };
+    fn image_of(&self, block: u128) -> u128 {
+        block ^ self.key
+    }
 
     ghost block = { λ c b h. xor_image-block c.key b h };
 
     ghost apart = { λ c a b ha hb e. xor_image-apart c.key a b e };
+}
+
+impl BlockCipher for Practice {
+    ghost KEY_BYTES = { 16 };
+
+    const KEY_BYTES: usize = 16;
+
+    ghost standard = { practice };
 
     fn with_zero_key() -> Practice {
         Practice { key: 0 }
@@ -40,9 +42,5 @@ impl BlockCipher for Practice {
         bytes.copy_from_slice(key);
         self.key = blocks::from_bytes(bytes);
         Ok(())
-    }
-
-    fn image_of(&self, block: u128) -> u128 {
-        block ^ self.key
     }
 }

@@ -1,8 +1,10 @@
 -- Bytes as digits and back: lengths, places, and that each way undoes the other. Assumes nothing.
-use Rattle.std.proofs.Common.{◌≡◌, ℕ, zero, suc, ◌+◌, ◌*◌, ◌/◌, ◌%◌, ◌<◌, min, true, List, [], ◌∷◌, ◌++◌, length, get_or, take, drop, set, sym, refl, ap, ◌∙◌, inl, inr, append_assoc, arith, rules}
-use Rattle.std.proofs.lemmas.List.{set_at, take_more, drop_more, take_all, drop_all, append-nil, length-take-le}
+use Rattle.std.proofs.Common.{◌≡◌, ℕ, zero, suc, ◌+◌, ◌*◌, ◌/◌, ◌%◌, ◌<◌, min, true, List, [], ◌∷◌, ◌++◌, map, length, get_or, take, drop, set, refl, ap, ◌∙◌, inl, inr, append_assoc, arith, rules}
+use Rattle.std.proofs.lemmas.List.{set_at, take_more, drop_more, drop_all, length-take-le}
 use Rattle.std.proofs.lemmas.Bool.{cases_lt}
+use Rattle.std.proofs.lemmas.Grind.{common_steps}
 use Rattle.std.proofs.lemmas.Bool.Decides.{nat_tests}
+use Rattle.std.specs.Simd.{first_chunks}
 use Rattle.blocks.specs.Blocks.{AllBytes}
 use Rattle.digits.specs.Hex.{digit, hex, is_digit, value, unhex, decoded}
 
@@ -28,43 +30,43 @@ length-unhex [] = refl
 length-unhex (a ∷ []) = refl
 length-unhex (a ∷ b ∷ cs) = let r = length-unhex cs in omega arith
 
-pub unhex-at : (cs : List ℕ) (i : ℕ) → 2 * i + 1 < length cs → get_or (unhex cs) i 0 ≡ 16 * value (get_or cs (2 * i) 0) + value (get_or cs (2 * i + 1) 0)
-unhex-at [] i h = let z : ⊥ = omega arith in absurd z
-unhex-at (a ∷ []) i h = let z : ⊥ = omega arith in absurd z
-unhex-at (a ∷ b ∷ cs) zero h = refl
-unhex-at (a ∷ b ∷ cs) (suc i) h =
-    let e : 2 * suc i ≡ suc (suc (2 * i)) = omega arith in
-    let f : 2 * suc i + 1 ≡ suc (suc (2 * i + 1)) = omega arith in
-    unhex-at cs i (omega arith) ∙ ap (λ k. 16 * value (get_or (a ∷ b ∷ cs) k 0) + value (get_or cs (2 * i + 1) 0)) (sym e)
-    ∙ ap (λ k. 16 * value (get_or (a ∷ b ∷ cs) (2 * suc i) 0) + value (get_or (a ∷ b ∷ cs) k 0)) (sym f)
+-- the byte that a pair of characters is
+abbrev pub pair_value : List ℕ → ℕ
+pair_value p = 16 * value (get_or p 0 0) + value (get_or p 1 0)
+
+pub unhex_pairs : (cs : List ℕ) (k : ℕ) → length cs / 2 ≡ k → map pair_value (first_chunks 2 k cs) ≡ unhex cs
+unhex_pairs [] zero h = refl
+unhex_pairs [] (suc k) h = absurd (omega arith)
+unhex_pairs (a ∷ []) zero h = refl
+unhex_pairs (a ∷ []) (suc k) h = absurd (omega arith)
+unhex_pairs (a ∷ b ∷ cs) zero h = absurd (omega arith)
+unhex_pairs (a ∷ b ∷ cs) (suc k) h = ap (λ (v : List ℕ). (16 * value a + value b) ∷ v) (unhex_pairs cs k (omega arith))
 
 -- ## A buffer that is filled
+
+-- what is left of a list, as its first item and the rest
+pub first_left : (u r : List ℕ) (i x : ℕ) → drop i u ≡ x ∷ r → (i < length u) × (x ≡ get_or u i 0) × (r ≡ drop (i + 1) u)
+first_left u r i x e =
+    elim (cases_lt i (length u)) [
+      | inl h ↦ let m = drop_more u i 0 h in (h, cc, cc)
+      | inr h ↦ let n = drop_all i u h in cc
+    ]
 
 -- one byte more at the front of a buffer
 pub front-more : (u out : List ℕ) (i : ℕ) → i < length u → i < length out → set (take i u ++ drop i out) i (get_or u i 0) ≡ take (i + 1) u ++ drop (i + 1) out
 front-more u out i h k =
-    ap (λ (y : List ℕ). set (take i u ++ y) i (get_or u i 0)) (drop_more out i 0 k)
-    ∙ set_at (take i u) (get_or out i 0) (drop (i + 1) out) (get_or u i 0) i (length-take-le i u (omega arith))
-    ∙ sym (append_assoc (take i u) (get_or u i 0 ∷ []) (drop (i + 1) out))
-    ∙ ap (λ (y : List ℕ). y ++ drop (i + 1) out) (sym (take_more u i 0 h))
+    let l = length-take-le i u (omega arith) in
+    let d = drop_more out i 0 k in
+    let t = take_more u i 0 h in
+    grind (arith, set_at, append_assoc)
 
 -- as many bytes as there are, or as the buffer has room for
 pub front_all : (u out : List ℕ) (i : ℕ) → i ≡ min (length out) (length u) → take i u ++ drop i out ≡ take (length out) u ++ drop (length u) out
-front_all u out i e =
-    elim (cases_lt (length u) (length out)) [
-      | inl h ↦
-          let is : i ≡ length u = omega arith in
-          rw is (ap (λ (y : List ℕ). y ++ drop (length u) out) (take_all (length u) u (omega arith) ∙ sym (take_all (length out) u (omega arith))))
-      | inr h ↦
-          let is : i ≡ length out = omega arith in
-          rw is (ap (λ (y : List ℕ). take (length out) u ++ y) (drop_all (length out) out (omega arith) ∙ sym (drop_all (length u) out (omega arith))))
-    ]
+front_all u out i e = grind (arith, common_steps)
 
 -- a buffer that the bytes just fill
 pub decoded_fits : (cs out : List ℕ) → length (unhex cs) ≡ length out → decoded cs out ≡ unhex cs
-decoded_fits cs out h =
-    ap (λ (y : List ℕ). y ++ drop (length (unhex cs)) out) (take_all (length out) (unhex cs) (omega arith))
-    ∙ ap (λ (y : List ℕ). unhex cs ++ y) (drop_all (length (unhex cs)) out (omega arith)) ∙ append-nil (unhex cs)
+decoded_fits cs out h = grind (arith, common_steps)
 
 pub decoded_all : (cs out : List ℕ) → length cs ≡ 2 * length out → decoded cs out ≡ unhex cs
 decoded_all cs out h = decoded_fits cs out (omega (arith, length-unhex cs))
@@ -87,8 +89,8 @@ digit_is d h = grind (arith, nat_tests)
 
 pub hex-unhex : (k : ℕ) (ds : List ℕ) → Digital ds → length ds ≡ 2 * k → (hex (unhex ds) ≡ ds) × (length (unhex ds) ≡ k)
 hex-unhex k [] h l = (refl, omega arith)
-hex-unhex k (a ∷ []) h l = let z : ⊥ = omega arith in absurd z
-hex-unhex zero (a ∷ b ∷ cs) h l = let z : ⊥ = omega arith in absurd z
+hex-unhex k (a ∷ []) h l = absurd (omega arith)
+hex-unhex zero (a ∷ b ∷ cs) h l = absurd (omega arith)
 hex-unhex (suc k) (a ∷ b ∷ cs) h l =
     let x = value-small a in
     let y = value-small b in

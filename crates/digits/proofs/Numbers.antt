@@ -1,21 +1,14 @@
 -- Reading digits one after another. Assumes nothing.
-use Rattle.std.proofs.Common.{◌≡◌, ℕ, ◌+◌, ◌-◌, ◌*◌, ◌^◌, ◌<◌, ◌≤◌, Bool, true, false, cond, ◌&&◌, leb, List, [], ◌∷◌, ◌++◌, length, get_or, take, drop, Some, None, Option, sym, refl, ap, ◌∙◌, arith, pow_mono, pow-add, eq-eqb, le-leb, leb-true}
+use Rattle.std.proofs.Common.{◌≡◌, ℕ, ◌+◌, ◌*◌, ◌^◌, ◌<◌, ◌≤◌, List, [], ◌∷◌, ◌++◌, length, get_or, take, drop, Some, None, Option, sym, refl, ap, ◌∙◌, arith, pow_mono, pow-add, eq-eqb, le-leb}
 use Rattle.std.proofs.lemmas.List.{take_more, drop_more, take-append-drop}
+use Rattle.std.specs.Option.{unwrap_or}
+use Rattle.digits.specs.Hex.{value}
+use Rattle.digits.proofs.Hexes.{value-small}
 use Rattle.digits.specs.Digits.{value_of, then_digit, digits_from, digits_number, number_of}
 
 -- a digit's value is below 16
 pub value_lt : (c d : ℕ) → Some d ≡ value_of c → d < 16
-value_lt c d e = go (leb 48 c) (leb c 57) (leb 97 c) (leb c 102) refl refl refl refl e
-  where
-    go : (a b p q : Bool) → leb 48 c ≡ a → leb c 57 ≡ b → leb 97 c ≡ p → leb c 102 ≡ q
-        → Some d ≡ cond (a && b) (Some (c - 48)) (cond (p && q) (Some (c - 87)) None) → d < 16
-    go true true p q ea eb ep eq e = let is : d ≡ c - 48 = cc in omega (arith, leb-true c 57 eb)
-    go true false true true ea eb ep eq e = let is : d ≡ c - 87 = cc in omega (arith, leb-true c 102 eq)
-    go true false true false ea eb ep eq e = absurd (let z : ◌≡◌ {A = ℕ} 0 1 = cc in omega arith)
-    go true false false q ea eb ep eq e = absurd (let z : ◌≡◌ {A = ℕ} 0 1 = cc in omega arith)
-    go false b true true ea eb ep eq e = let is : d ≡ c - 87 = cc in omega (arith, leb-true c 102 eq)
-    go false b true false ea eb ep eq e = absurd (let z : ◌≡◌ {A = ℕ} 0 1 = cc in omega arith)
-    go false b false q ea eb ep eq e = absurd (let z : ◌≡◌ {A = ℕ} 0 1 = cc in omega arith)
+value_lt c d e = let is : d ≡ value c = ap (λ o. unwrap_or o 0) e in omega (arith, value-small c)
 
 then_none : (n : Option ℕ) → then_digit n None ≡ None
 then_none None = refl

@@ -1,7 +1,9 @@
 -- Reading two digits after another. Assumes nothing.
-use Rattle.std.proofs.Common.{◌≡◌, ℕ, ◌+◌, ◌*◌, ◌%◌, ◌<◌, ◌≤◌, List, [], ◌∷◌, ◌++◌, length, get_or, drop, Some, None, Option, sym, refl, ap, ◌∙◌, append_assoc, append-nil, arith}
+use Rattle.std.proofs.Common.{◌≡◌, ℕ, zero, suc, ◌+◌, ◌*◌, ◌%◌, ◌<◌, ◌≤◌, List, [], ◌∷◌, ◌++◌, length, get_or, drop, Some, None, Option, sym, refl, ap, ◌∙◌, append_assoc, append-nil, arith}
 use Rattle.std.proofs.lemmas.List.{drop_more, drop_all}
+use Rattle.std.proofs.lemmas.Grind.{common_steps}
 use Rattle.std.specs.Option.{option_map}
+use Rattle.std.specs.Simd.{first_chunks}
 use Rattle.digits.specs.Digits.{value_of, then_digit, byte_before, digits_bytes}
 
 -- bytes xs in front of what a text is
@@ -12,21 +14,17 @@ after_before : (xs : List ℕ) (b : ℕ) (o : Option (List ℕ)) → after xs (b
 after_before xs b None = refl
 after_before xs b (Some bs) = ap Some (sym (append_assoc xs (b ∷ []) bs))
 
+-- the pairs that a text is cut into are its characters in turn
+pub pairs_at : (cs : List ℕ) (k i : ℕ) (d : List ℕ) → i < k → 2 * k ≤ length cs → get_or (first_chunks 2 k cs) i d ≡ get_or cs (2 * i) 0 ∷ get_or cs (2 * i + 1) 0 ∷ []
+pairs_at [] k i d h l = absurd (omega arith)
+pairs_at (a ∷ []) k i d h l = absurd (omega arith)
+pairs_at (a ∷ b ∷ cs) zero i d h l = absurd (omega arith)
+pairs_at (a ∷ b ∷ cs) (suc k) zero d h l = refl
+pairs_at (a ∷ b ∷ cs) (suc k) (suc i) d h l = pairs_at cs k i d (omega arith) (omega arith) ∙ grind arith
+
 -- the two characters at 2 i, and the rest
 two-more : (cs : List ℕ) (i : ℕ) → 2 * i + 1 < length cs → drop (2 * i) cs ≡ get_or cs (2 * i) 0 ∷ get_or cs (2 * i + 1) 0 ∷ drop (2 * (i + 1)) cs
-two-more cs i h =
-    let next : 2 * i + 1 + 1 ≡ 2 * (i + 1) = omega arith in
-    drop_more cs (2 * i) 0 (omega arith)
-    ∙ ap (λ ds. get_or cs (2 * i) 0 ∷ ds) (drop_more cs (2 * i + 1) 0 h)
-    ∙ ap (λ k. get_or cs (2 * i) 0 ∷ get_or cs (2 * i + 1) 0 ∷ drop k cs) next
-
--- a text is what it is with nothing in front
-pub bytes_none : (cs : List ℕ) → digits_bytes cs ≡ after [] (digits_bytes (drop (2 * 0) cs))
-bytes_none cs = go (digits_bytes cs)
-  where
-    go : (o : Option (List ℕ)) → o ≡ after [] o
-    go None = refl
-    go (Some bs) = refl
+two-more cs i h = grind (arith, common_steps, drop_more)
 
 -- one byte more
 pub bytes_more : (xs cs : List ℕ) (i n : ℕ) → 2 * i + 1 < length cs → Some n ≡ then_digit (value_of (get_or cs (2 * i) 0)) (value_of (get_or cs (2 * i + 1) 0))
@@ -51,7 +49,7 @@ bytes_all xs cs i h = ap (λ ds. after xs (digits_bytes ds)) (drop_all (2 * i) c
 -- an odd number of digits
 pub bytes_odd : (cs : List ℕ) → length cs % 2 ≡ 1 → digits_bytes cs ≡ None
 unfolding digits_bytes
-bytes_odd [] h = let z : ⊥ = omega arith in absurd z
+bytes_odd [] h = absurd (omega arith)
 bytes_odd (a ∷ []) h = refl
 bytes_odd (a ∷ b ∷ cs) h = ap (byte_before (then_digit (value_of a) (value_of b))) (bytes_odd cs (omega arith)) ∙ go (then_digit (value_of a) (value_of b))
   where

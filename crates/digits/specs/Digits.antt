@@ -3,10 +3,13 @@
 -- digits_number cs: the number that the text cs is, where each character is a digit.
 -- digits_bytes cs: the bytes that the text cs is, where it is digits and their number is even.
 -- number_of n cs: the number that a text of n digits is, of 32 at the most.
-use Rattle.std.specs.Prelude.{ℕ, ◌+◌, ◌-◌, ◌*◌, cond, ◌&&◌, List, [], ◌∷◌, length, Some, None, Option, ◌==◌, nat_le}
+use Rattle.std.specs.Prelude.{ℕ, ◌+◌, ◌-◌, ◌*◌, if◌then◌else◌, ◌&&◌, List, [], ◌∷◌, length, Some, None, Option, ◌==◌, nat_le}
 
 abbrev pub value_of : ℕ → Option ℕ
-value_of c = cond (nat_le 48 c && nat_le c 57) (Some (c - 48)) (cond (nat_le 97 c && nat_le c 102) (Some (c - 87)) None)
+value_of c =
+    if nat_le 48 c && nat_le c 57 then Some (c - 48)
+    else if nat_le 97 c && nat_le c 102 then Some (c - 87)
+    else None
 
 -- the number n, and then a digit
 abbrev pub then_digit : Option ℕ → Option ℕ → Option ℕ
@@ -23,7 +26,7 @@ abbrev pub digits_number : List ℕ → Option ℕ
 digits_number cs = digits_from (Some 0) cs
 
 abbrev pub number_of : ℕ → List ℕ → Option ℕ
-number_of n cs = cond (length cs == n && nat_le n 32) (digits_number cs) None
+number_of n cs = if length cs == n && nat_le n 32 then digits_number cs else None
 
 -- a byte before bytes
 abbrev pub byte_before : Option ℕ → Option (List ℕ) → Option (List ℕ)

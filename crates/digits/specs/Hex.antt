@@ -4,12 +4,12 @@
 -- is_digit c, value c: whether c is a digit, and its value, 0 where it is none.
 -- unhex cs: the bytes that the digits cs are; a last digit without a second one is left out.
 -- decoded cs out: the buffer out with these bytes at its front, as many as it has room for.
-use Rattle.std.specs.Prelude.{ℕ, ◌+◌, ◌*◌, ◌/◌, ◌%◌, Bool, cond, List, [], ◌∷◌, ◌++◌, length, take, drop, is_some, nat_lt}
+use Rattle.std.specs.Prelude.{ℕ, ◌+◌, ◌*◌, ◌/◌, ◌%◌, Bool, if◌then◌else◌, List, [], ◌∷◌, ◌++◌, length, take, drop, is_some, nat_lt}
 use Rattle.std.specs.Option.{unwrap_or}
 use Rattle.digits.specs.Digits.{value_of}
 
 abbrev pub digit : ℕ → ℕ
-digit d = cond (nat_lt d 10) (48 + d) (87 + d)
+digit d = if nat_lt d 10 then 48 + d else 87 + d
 
 abbrev pub hex : List ℕ → List ℕ
 hex [] = []

@@ -24,12 +24,12 @@ pub fn digits_of(byte: u8) -> [u8; 2]
 }
 
 // The byte that two characters are; one that is no digit counts as 0.
-fn byte_at(text: &[u8], at: usize) -> u8
-    requires { at + 1 < length text.now }
-    ensures { result ≡ 16 * value (slice_index text.now at) + value (slice_index text.now (at + 1)) }
+fn byte_at(pair: &[u8; 2]) -> u8
+    ensures { result ≡ 16 * value (slice_index pair.now 0) + value (slice_index pair.now 1) }
 {
-    let high = digit_value(text[at] as char).unwrap_or(0);
-    let low = digit_value(text[at + 1] as char).unwrap_or(0);
+    let [high, low] = *pair;
+    let high = digit_value(high as char).unwrap_or(0);
+    let low = digit_value(low as char).unwrap_or(0);
     high * 16 + low
 }
 
@@ -38,8 +38,13 @@ fn byte_at(text: &[u8], at: usize) -> u8
 pub fn decode(text: &[u8], out: &mut [u8])
     ensures { out.new ≡ decoded text.now out.old }
 {
-    let count = out.len().min(text.len() / 2);
-    for i in 0..count {
-        out[i] = byte_at(text, 2 * i);
+    let (pairs, _) = text.as_chunks::<2>();
+    // No `zip` of `iter_mut`: the library says nothing of the values that are written through one.
+    let mut pairs = pairs.iter();
+    for byte in out.iter_mut() {
+        let Some(pair) = pairs.next() else {
+            return;
+        };
+        *byte = byte_at(pair);
     }
 }

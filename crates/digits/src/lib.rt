@@ -42,12 +42,13 @@ pub fn number(text: &[u8], count: usize) -> Option<u128>
 pub fn bytes(heap: Global, text: &[u8]) -> Result<Option<Vec<u8>>, AllocError>
     ensures { IfOk result (λ o. option_map vec_items o ≡ digits_bytes text.now) }
 {
-    if text.len() % 2 != 0 {
+    let (pairs, odd) = text.as_chunks::<2>();
+    if !odd.is_empty() {
         return Ok(None);
     }
     let mut out = Vec::new(heap);
-    for i in 0..text.len() / 2 {
-        let Some(byte) = byte_of(text[2 * i] as char, text[2 * i + 1] as char) else {
+    for [high, low] in pairs {
+        let Some(byte) = byte_of(*high as char, *low as char) else {
             return Ok(None);
         };
         out.push(byte)?;

@@ -1,5 +1,7 @@
 -- A text of digits only, and one with another character. Assumes nothing.
-use Rattle.std.proofs.Common.{◌≡◌, ℕ, zero, suc, ◌+◌, ◌*◌, ◌%◌, ◌<◌, true, false, List, [], ◌∷◌, length, get_or, is_some, Some, None, Option, unwrap_or, refl, ap, ◌∙◌, arith}
+use Rattle.std.proofs.Common.{◌≡◌, ℕ, zero, suc, ◌+◌, ◌*◌, ◌%◌, ◌<◌, true, false, List, [], ◌∷◌, length, get_or, is_some, Some, None, Option, unwrap_or, refl, ap, ◌∙◌, arith, Bool, if◌then◌else◌}
+use Rattle.std.specs.Bool.{MatchBool}
+use Rattle.std.specs.List.{AllWithin, HoldsAt}
 use Rattle.digits.specs.Digits.{value_of, then_digit, byte_before, digits_bytes}
 use Rattle.digits.specs.Hex.{is_digit, unhex}
 
@@ -13,7 +15,7 @@ two_digits (Some x) None p q = absurd (let z : ◌≡◌ {A = ℕ} 0 1 = cc in o
 two_digits (Some x) (Some y) p q = ap Some (omega arith)
 
 -- an even number of digits is bytes
-pub digits_are : (cs : List ℕ) → length cs % 2 ≡ 0 → Digits (length cs) cs → digits_bytes cs ≡ Some (unhex cs)
+digits_are : (cs : List ℕ) → length cs % 2 ≡ 0 → Digits (length cs) cs → digits_bytes cs ≡ Some (unhex cs)
 unfolding digits_bytes
 digits_are [] e h = refl
 digits_are (a ∷ []) e h = let z : ⊥ = omega arith in absurd z
@@ -46,5 +48,12 @@ no_value : (o : Option ℕ) → is_some o ≡ false → o ≡ None
 no_value None e = refl
 no_value (Some n) e = absurd (let z : ◌≡◌ {A = ℕ} 0 1 = cc in omega arith)
 
-pub digits_stop : (cs : List ℕ) (i : ℕ) → i < length cs → is_digit (get_or cs i 0) ≡ false → digits_bytes cs ≡ None
+digits_stop : (cs : List ℕ) (i : ℕ) → i < length cs → is_digit (get_or cs i 0) ≡ false → digits_bytes cs ≡ None
 digits_stop cs i l e = none_at cs i l (no_value (value_of (get_or cs i 0)) e)
+
+-- what the test on each character tells, where the number of characters is even
+pub digits_told : (cs : List ℕ) (r : Bool) → length cs % 2 ≡ 0
+    → MatchBool r (AllWithin (λ c. is_digit c ≡ true) cs 0 (length cs)) ((i : ℕ) × (i < length cs) × HoldsAt (λ c. is_digit c ≡ false) cs i)
+    → digits_bytes cs ≡ (if r then Some (unhex cs) else None)
+digits_told cs true e h = digits_are cs e (λ i l. h i 0 (omega arith) l)
+digits_told cs false e h = digits_stop cs h.0 h.1 (h.2 0)

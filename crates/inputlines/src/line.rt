@@ -7,34 +7,22 @@ ghost use Rattle.inputlines.specs.Lines.{parted_line, line_as};
 use cipherlines::chosen::Name;
 use digits::digit_value;
 
-const LINE_FEED: u8 = 10;
+const LINE_FEED: u8 = b'\n';
 
 // What stands before the first line feed of a text, and what stands behind it; `None` where it has no line feed.
 pub fn next_line(text: &[u8]) -> Option<(&[u8], &[u8])>
     ensures { MatchOption result (parted_line text.now ≡ None)
         (λ p. parted_line text.now ≡ Some (p.0.now, p.1.now)) }
 {
-    for (i, c) in text.iter().enumerate() {
-        if *c == LINE_FEED {
-            return Some((&text[..i], &text[i + 1..]));
-        }
-    }
-    None
+    let end = text.iter().position(|c| *c == LINE_FEED)?;
+    Some((&text[..end], &text[end + 1..]))
 }
 
 // Whether a text is bytes: digits, and an even number of them.
 pub fn are_bytes(text: &[u8]) -> bool
     ensures { digits_bytes text.now ≡ (if result then Some (unhex text.now) else None) }
 {
-    if text.len() % 2 != 0 {
-        return false;
-    }
-    for c in text {
-        if digit_value(*c as char).is_none() {
-            return false;
-        }
-    }
-    true
+    text.len() % 2 == 0 && text.iter().all(|c| digit_value(*c as char).is_some())
 }
 
 // The cipher that the first line names, and what stands behind the line; `None` where there is no such line.
@@ -43,7 +31,7 @@ pub fn name_line(text: &[u8]) -> Option<(Name, &[u8])>
         (λ p. line_as name_of text.now ≡ Some (p.0, p.1.now)) }
 {
     let (line, rest) = next_line(text)?;
-    let name = Name::from_bytes(line)?;
+    let name = Name::try_from(line).ok()?;
     Some((name, rest))
 }
 
@@ -52,12 +40,7 @@ pub fn bytes_line(text: &[u8]) -> Option<(&[u8], &[u8])>
     ensures { MatchOption result (line_as digits_bytes text.now ≡ None)
         (λ p. line_as digits_bytes text.now ≡ Some (unhex p.0.now, p.1.now)) }
 {
-    let (line, rest) = next_line(text)?;
-    if are_bytes(line) {
-        Some((line, rest))
-    } else {
-        None
-    }
+    next_line(text).filter(|(line, _)| are_bytes(line))
 }
 
 // The number that a first line of just `count` digits is, and what stands behind the line; `None` where there is no such line.

@@ -1,3 +1,4 @@
 pub mod Counters
 pub mod Published
 pub mod Laws
+pub mod Buffers

@@ -2,7 +2,7 @@
 ghost use Rattle.std.specs.Prelude.{◌≡◌};
 ghost use Rattle.keystream.specs.Counters.{const0, const1};
 
-use ciphers::cipher::BlockCipher;
+use ciphers::cipher::Permutation;
 
 // 127 one bits and a zero. As a counter it would need a nonce of 64 bits, so no keystream has it.
 const CONST0: u128 = 340282366920938463463374607431768211454;
@@ -11,7 +11,7 @@ const CONST0: u128 = 340282366920938463463374607431768211454;
 const CONST1: u128 = 340282366920938463463374607431768211455;
 
 // The images of the two constants: the key that ciphertexts are hashed under, and the key for headers.
-pub fn hash_keys<C: BlockCipher>(cipher: &C) -> (u128, u128)
+pub fn hash_keys<C: Permutation>(cipher: &C) -> (u128, u128)
     ensures { result ≡ (C.image cipher.now const0, C.image cipher.now const1) }
 {
     (cipher.image_of(CONST0), cipher.image_of(CONST1))

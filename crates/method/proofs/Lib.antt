@@ -1,3 +1,4 @@
 pub mod Closed
 pub mod Joined
 pub mod Undone
+pub mod Kept

@@ -1,6 +1,8 @@
 -- The limits on what is sealed, and the refusals where one is passed. Assumes nothing.
 use Rattle.std.specs.Prelude.{ℕ, ◌^◌, Bool, ◌&&◌, [], nat_le, nat_lt}
 use Rattle.refusals.specs.Answers.{Told}
+use Rattle.method.specs.declared.limits.LimitFault.{LimitFault}
+use Rattle.method.specs.declared.limits.LimitFault.TheVariants.{HeaderTooLong, MessageTooLong, TagLength, Nonce}
 
 -- a header has at most 4,096 bytes
 abbrev pub header_limit : ℕ
@@ -45,3 +47,9 @@ past_end = (6, [])
 -- refusal 15: the tag differs
 abbrev pub tag_differs : Told
 tag_differs = (15, [])
+
+abbrev pub limit_told : LimitFault → Told
+limit_told HeaderTooLong = header_too_long
+limit_told MessageTooLong = message_too_long
+limit_told TagLength = bad_tag_length
+limit_told Nonce = bad_nonce

@@ -7,6 +7,7 @@ ghost use Rattle.method.specs.Laws.{MethodLaws};
 ghost use Rattle.method.specs.Published.{tag_block};
 
 pub mod limits;
+pub mod sheet;
 
 // The sixteen bytes of which a tag is the first ones: the hashes of the ciphertext and of the header, and the keystream's first
 // block, xored. The second clause is the theorem on the method that such tags belong to: encryption by the closed forms is the

@@ -1,4 +1,8 @@
-// The limits on what is sealed; specs/Limits.antt has the same, and every crate that tests one takes it from here.
+// The limits on what is sealed, named once; specs/Limits.antt has the same.
+ghost use Rattle.std.specs.Prelude.{◌≡◌};
+ghost use Rattle.method.specs.Limits.{tag_fits, limit_told};
+
+use refusals::Refusal;
 
 pub const HEADER_LIMIT: usize = 4096;
 
@@ -9,5 +13,33 @@ pub const TAG_LEAST: usize = 12;
 
 pub const TAG_MOST: usize = 16;
 
-// 2^63: a nonce has 63 bits.
-pub const NONCE_END: u64 = 9223372036854775808;
+// A nonce has 63 bits.
+pub const NONCE_END: u64 = 1 << 63;
+
+// Which limit a sheet does not keep.
+#[derive(Clone, Copy, Debug, PartialEq, Eq)]
+pub enum LimitFault {
+    // the header passes 4,096 bytes
+    HeaderTooLong = 1,
+    // the message passes 1,048,576 bytes
+    MessageTooLong = 2,
+    // the tag's length is outside 12 to 16
+    TagLength = 4,
+    // the nonce is 2^63 or more
+    Nonce = 5,
+}
+
+impl Refusal for LimitFault {
+    ghost told = { limit_told };
+
+    fn number(&self) -> u8 {
+        *self as u8
+    }
+}
+
+// Whether a tag may have so many bytes.
+pub fn is_tag_length(len: usize) -> bool
+    ensures { result ≡ tag_fits len }
+{
+    (TAG_LEAST..=TAG_MOST).contains(&len)
+}

@@ -20,15 +20,6 @@ shifted_in p b h =
     ap (λ n. bit_or n b) e ∙ or_shifted (p % 2 ^ 120) 8 b h
     ∙ sym (ap (λ n. n % 2 ^ 128) f ∙ mod_low (p / 2 ^ 120) 128 (p % 2 ^ 120 * 256 + b) g)
 
-pub bytes_append : (xs ys : List ℕ) → AllBytes xs → AllBytes ys → AllBytes (xs ++ ys)
-bytes_append [] ys bx by = by
-bytes_append (x ∷ xs) ys bx by = (bx.0, bytes_append xs ys bx.1 by)
-
-pub bytes_drop : (n : ℕ) (xs : List ℕ) → AllBytes xs → AllBytes (drop n xs)
-bytes_drop zero xs b = b
-bytes_drop (suc n) [] b = tt
-bytes_drop (suc n) (x ∷ xs) b = bytes_drop n xs b.1
-
 pub bytes_zeros : (n : ℕ) → AllBytes (replicate n 0)
 bytes_zeros zero = tt
 bytes_zeros (suc n) = (omega arith, bytes_zeros n)

@@ -5,8 +5,8 @@ use lib.Arith.{bin_ind, half_le}
 use lib.Bits.{bit_xor, xor_assoc, xor_comm, xor_self, xor_zero_r, xor_lt, xor_shr, xor_block}
 use Rattle.polynomials.specs.Polynomials.{times, modulus, reduced, remainder_low, remainder}
 use Rattle.std.proofs.lemmas.Bool.{cases_lt}
-use Rattle.blocks.proofs.Xors.{xor_middle}
-use Rattle.polynomials.proofs.Sums.{xor_none, xor_doubled, xor_last, whole}
+use Rattle.blocks.proofs.Xors.{xor_middle, xor_doubled}
+use Rattle.polynomials.proofs.Sums.{xor_none, xor_last, whole}
 use Rattle.polynomials.proofs.Ring.{times-step, times_xor_l, times_double_l, times_comm, times_assoc, times-one, one-times, zero_times}
 
 -- more coefficients than there are change nothing

@@ -4,8 +4,8 @@ use native.Mathlib.Decide.{le_ind}
 use lib.Arith.{bin_ind, half_le}
 use lib.Bits.{bit_xor, xor_zero_r, xor_mod, xor_shr}
 use Rattle.polynomials.specs.Polynomials.{times_low, times}
-use Rattle.blocks.proofs.Xors.{xor_middle}
-use Rattle.polynomials.proofs.Sums.{xor_doubled, xor_coefficients, coefficient_xor, whole}
+use Rattle.blocks.proofs.Xors.{xor_middle, xor_doubled, xor_bits}
+use Rattle.polynomials.proofs.Sums.{coefficient_xor, whole}
 
 -- more coefficients than there are change nothing
 more : (n a b : ℕ) → b ≤ n → times_low (suc n) a b ≡ times_low n a b
@@ -38,7 +38,7 @@ times_xor_r a =
     (λ b ih c.
     times-step a (bit_xor b c)
     ∙ ap₂ (λ (p m : ℕ). bit_xor (p * a) (2 * times a m)) (xor_mod b c 1) (xor_shr b c 1)
-    ∙ ap₂ bit_xor (xor_coefficients (b % 2) (c % 2) a (digit b) (digit c))
+    ∙ ap₂ bit_xor (xor_bits (b % 2) (c % 2) a (digit b) (digit c))
     (ap (λ m. 2 * m) (ih (c / 2)) ∙ xor_doubled (times a (b / 2)) (times a (c / 2)))
     ∙ xor_middle (b % 2 * a) (c % 2 * a) (2 * times a (b / 2)) (2 * times a (c / 2))
     ∙ ap₂ bit_xor (sym (times-step a b)) (sym (times-step a c)))

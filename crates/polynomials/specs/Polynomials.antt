@@ -7,7 +7,7 @@
 -- remainder f: what the long division of f by the modulus leaves.
 -- product a b: the remainder of times a b.
 -- times_x a: x times the block a, by the doubling rule.
-use Rattle.std.specs.Prelude.{ℕ, zero, suc, ◌+◌, ◌-◌, ◌*◌, ◌/◌, ◌%◌, ◌^◌, cond, bit_xor, nat_lt}
+use Rattle.std.specs.Prelude.{ℕ, zero, suc, ◌+◌, ◌-◌, ◌*◌, ◌/◌, ◌%◌, ◌^◌, if◌then◌else◌, bit_xor, nat_lt}
 
 -- by the coefficients of g, the lowest first: f times (c + x g') is c f + x (f g'). At most n coefficients are read
 unfoldable pub times_low : ℕ → ℕ → ℕ → ℕ
@@ -25,7 +25,7 @@ modulus = 2 ^ 128 + 2 ^ 7 + 2 ^ 2 + 2 + 1
 
 -- a step of the long division: where the degree has come to 128, the modulus is taken away
 abbrev pub reduced : ℕ → ℕ
-reduced r = cond (nat_lt r (2 ^ 128)) r (bit_xor r modulus)
+reduced r = if nat_lt r (2 ^ 128) then r else bit_xor r modulus
 
 -- the coefficients of f are brought down one by one, the highest first. At most the n lowest are
 unfoldable pub remainder_low : ℕ → ℕ → ℕ
@@ -42,4 +42,4 @@ product a b = remainder (times a b)
 
 -- the doubling rule: a shift to the left. From 2^127 on it carries to x^128, which is replaced by x^7 + x^2 + x + 1 (135)
 abbrev pub times_x : ℕ → ℕ
-times_x a = cond (nat_lt a (2 ^ 127)) (2 * a) (bit_xor (2 * a - 2 ^ 128) 135)
+times_x a = if nat_lt a (2 ^ 127) then 2 * a else bit_xor (2 * a - 2 ^ 128) 135

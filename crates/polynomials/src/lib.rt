@@ -26,7 +26,7 @@ pub fn multiply(a: u128, b: u128) -> u128
     let mut sum: u128 = 0;
     let mut shifted = a;
     let mut rest = b;
-    for i in 0..128u32 {
+    for _ in 0..128u32 {
         sum ^= (rest & 1) * shifted;
         shifted = times_x(shifted);
         rest >>= 1;

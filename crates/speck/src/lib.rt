@@ -6,7 +6,7 @@ ghost use Rattle.speck.specs.Keyed.{keys_image};
 ghost use Rattle.speck.specs.Rounds.{round, rounds, speck, key_word};
 ghost use Rattle.speck.specs.Apart.{image-block, image-apart};
 
-use ciphers::cipher::BlockCipher;
+use ciphers::cipher::{BlockCipher, Permutation};
 use ciphers::fault::KeyFault;
 
 const ROUNDS: usize = 34;
@@ -57,8 +57,8 @@ fn expand(key: &[u8]) -> [u64; 34]
     let mut l = word_of(key, 2);
     let mut l1 = word_of(key, 1);
     let mut l2 = word_of(key, 0);
-    for i in 0..ROUNDS {
-        keys[i] = k;
+    for (i, key) in keys.iter_mut().enumerate() {
+        *key = k;
         let (next_l, next_k) = next_words(i as u64, l, k);
         l = l1;
         l1 = l2;
@@ -68,22 +68,27 @@ fn expand(key: &[u8]) -> [u64; 34]
     keys
 }
 
-impl BlockCipher for Speck128_256 {
-    ghost bytes = { 32 };
-
-    const KEY_BYTES: usize = 32;
-
-    fn key_len() -> usize {
-        Self::KEY_BYTES
-    }
-
+impl Permutation for Speck128_256 {
     ghost image = { λ c. keys_image c.keys };
 
-    ghost standard = { speck };
+    fn image_of(&self, block: u128) -> u128 {
+        let x = (block >> 64) as u64;
+        let y = (block & 0xffff_ffff_ffff_ffff) as u64;
+        let (a, b) = all_rounds(&self.keys, x, y);
+        (u128::from(a) << 64) | u128::from(b)
+    }
 
     ghost block = { λ c b h. image-block (λ i. get_or c.keys i 0) b h };
 
     ghost apart = { λ c a b ha hb e. image-apart (λ i. get_or c.keys i 0) a b ha hb e };
+}
+
+impl BlockCipher for Speck128_256 {
+    ghost KEY_BYTES = { 32 };
+
+    const KEY_BYTES: usize = 32;
+
+    ghost standard = { speck };
 
     fn with_zero_key() -> Speck128_256 {
         Speck128_256 {
@@ -97,12 +102,5 @@ impl BlockCipher for Speck128_256 {
         }
         self.keys = expand(key);
         Ok(())
-    }
-
-    fn image_of(&self, block: u128) -> u128 {
-        let x = (block >> 64) as u64;
-        let y = (block & 0xffff_ffff_ffff_ffff) as u64;
-        let (a, b) = all_rounds(&self.keys, x, y);
-        (u128::from(a) << 64) | u128::from(b)
     }
 }

@@ -6,7 +6,7 @@ use Rattle.std.specs.Str.{bytes_eq}
 use Rattle.digits.specs.Digits.{number_of, digits_bytes}
 use Rattle.storelines.specs.Orders.{supply_of}
 use Rattle.words.specs.Splits.{Parts, parted}
-use Rattle.storelines.specs.declared.order.Supply.{Supply}
+use Rattle.stores.specs.declared.supply.Supply.{Supply}
 use Rattle.storelines.specs.declared.start.Start.{Start}
 use Rattle.storelines.specs.declared.start.Start.TheVariants as start
 

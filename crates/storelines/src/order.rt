@@ -1,50 +1,42 @@
-ghost use Rattle.std.specs.Prelude.{◌≡◌};
-ghost use Rattle.storelines.specs.Orders.{supply_of, order_of, order_parts, reply_answer, order_answer, obeyed};
-ghost use Rattle.words.specs.Splits.{parted};
+ghost use Rattle.std.specs.Prelude.{◌≡◌, Some};
+ghost use Rattle.storelines.specs.Orders.{order_of, reply_answer, reply_text, order_answer, obeyed};
 
+use crate::supply;
+use refusals::Refusal;
+use std::fmt;
 use stores::fault::RaiseFault;
 use stores::store::MarkStore;
+use stores::supply::Supply;
 use words::parts;
 
-const POWER_DIGITS: usize = 8;
-
-const LEFTOVER_DIGITS: usize = 2;
-
-// What a store is handed when it is put on: how many raises will complete, and the byte that a cut leaves.
-#[derive(Clone, Copy)]
-pub struct Supply {
-    pub power: u32,
-    pub leftover: u8,
-}
-
 // What a store can be told.
-#[derive(Clone, Copy)]
+#[derive(Clone, Copy, Debug, PartialEq, Eq)]
 pub enum Order {
     Raise,
     Restart(Supply),
 }
 
 // What a store answered.
-#[derive(Clone, Copy)]
+#[derive(Clone, Copy, Debug, PartialEq, Eq)]
 pub enum Reply {
-    // the raise completed, and gives this mark
-    Raised(u64),
-    Refused(RaiseFault),
+    // the mark, where the raise completed
+    Raised(Result<u64, RaiseFault>),
     Restarted,
 }
 
-impl Supply {
-    // Power in 8 digits, a space, leftover in 2 digits; `None` for any other text.
-    pub fn from_text(text: &str) -> Option<Supply>
-        ensures { result ≡ supply_of text.now }
-    {
-        let (power, leftover) = parts(text)?;
-        let power = digits::number(power.as_bytes(), POWER_DIGITS)?;
-        let leftover = digits::number(leftover.as_bytes(), LEFTOVER_DIGITS)?;
-        Some(Supply {
-            power: power as u32,
-            leftover: leftover as u8,
-        })
+// As `raised from 3`, `refused 22` and `restarted`.
+impl fmt::Display for Reply {
+    ghost output = { λ r. Some (reply_text r) };
+
+    fn fmt<W: fmt::Write>(&self, f: &mut fmt::Formatter<W>) -> fmt::Result {
+        match self {
+            Reply::Raised(Ok(mark)) => write!(f, "raised from {mark}"),
+            Reply::Raised(Err(fault)) => {
+                let number = fault.number();
+                write!(f, "refused {number}")
+            }
+            Reply::Restarted => f.write_str("restarted"),
+        }
     }
 }
 
@@ -53,21 +45,11 @@ impl Order {
     pub fn from_line(line: &str) -> Option<Order>
         ensures { result ≡ order_of line.now }
     {
-        match line {
-            "raise" => Some(Order::Raise),
-            _ => Order::restart_from_line(line),
+        if line == "raise" {
+            return Some(Order::Raise);
         }
-    }
-
-    fn restart_from_line(line: &str) -> Option<Order>
-        ensures { result ≡ order_parts (parted line.now) }
-    {
-        let (word, rest) = parts(line)?;
-        match word {
-            "restart" => {
-                let supply = Supply::from_text(rest)?;
-                Some(Order::Restart(supply))
-            }
+        match parts(line)? {
+            ("restart", rest) => supply::from_text(rest).map(Order::Restart),
             _ => None,
         }
     }
@@ -78,12 +60,9 @@ impl Order {
         ensures after { S.meaning store.new ≡ obeyed self (S.meaning store.old) }
     {
         match self {
-            Order::Raise => match store.raise() {
-                Ok(mark) => Reply::Raised(mark),
-                Err(fault) => Reply::Refused(fault),
-            },
+            Order::Raise => Reply::Raised(store.raise()),
             Order::Restart(supply) => {
-                store.restart(supply.power, supply.leftover);
+                store.restart(supply);
                 Reply::Restarted
             }
         }

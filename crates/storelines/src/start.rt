@@ -3,14 +3,15 @@ ghost use Rattle.std.specs.Option.{option_map};
 ghost use Rattle.words.specs.Splits.{parted};
 ghost use Rattle.storelines.specs.Starts.{start_told, start_of, register_parts, strip_parts};
 
-use crate::order::Supply;
+use crate::supply;
 use std::alloc::{AllocError, Global};
+use stores::supply::Supply;
 use words::parts;
 
 const MARK_DIGITS: usize = 14;
 
 // A store to start with.
-#[derive(Drop)]
+#[derive(Debug, PartialEq, Eq, Drop)]
 pub enum Start {
     Register { mark: u64, supply: Supply },
     Strip { cells: Vec<u8>, supply: Supply },
@@ -21,15 +22,9 @@ impl Start {
     pub fn from_line(heap: Global, line: &str) -> Result<Option<Start>, AllocError>
         ensures { IfOk result (λ o. option_map start_told o ≡ start_of line.now) }
     {
-        let Some((word, rest)) = parts(line) else {
-            return Ok(None);
-        };
-        match word {
-            "register" => Ok(Start::register(rest)),
-            "strip" => {
-                let strip = Start::strip(heap, rest)?;
-                Ok(strip)
-            }
+        match parts(line) {
+            Some(("register", rest)) => Ok(Start::register(rest)),
+            Some(("strip", rest)) => Start::strip(heap, rest),
             _ => Ok(None),
         }
     }
@@ -38,11 +33,9 @@ impl Start {
         ensures { option_map start_told result ≡ register_parts (parted text.now) }
     {
         let (mark, rest) = parts(text)?;
-        let mark = digits::number(mark.as_bytes(), MARK_DIGITS)?;
-        let supply = Supply::from_text(rest)?;
         Some(Start::Register {
-            mark: mark as u64,
-            supply,
+            mark: digits::number(mark.as_bytes(), MARK_DIGITS)? as u64,
+            supply: supply::from_text(rest)?,
         })
     }
 
@@ -52,12 +45,12 @@ impl Start {
         let Some((cells, rest)) = parts(text) else {
             return Ok(None);
         };
-        let Some(cells) = digits::bytes(heap, cells.as_bytes())? else {
-            return Ok(None);
-        };
-        let Some(supply) = Supply::from_text(rest) else {
-            return Ok(None);
-        };
-        Ok(Some(Start::Strip { cells, supply }))
+        let cells = digits::bytes(heap, cells.as_bytes())?;
+        let supply = supply::from_text(rest);
+        Ok(
+            cells
+                .zip(supply)
+                .map(|(cells, supply)| Start::Strip { cells, supply }),
+        )
     }
 }

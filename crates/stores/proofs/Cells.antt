@@ -1,40 +1,28 @@
 -- The mark of a strip's cells: how it is found from the last cell down, and what a write to the cell at the mark makes of it.
-use Rattle.std.proofs.Common.{◌≡◌, ℕ, zero, suc, ◌+◌, ◌-◌, ◌<◌, ◌≤◌, cond, eqb, List, [], ◌∷◌, ◌++◌, length, get_or, take, set, sym, refl, ap, ◌∙◌, ⊎_elim, arith}
+use Rattle.std.proofs.Common.{◌≡◌, ◌≢◌, ℕ, zero, suc, ◌+◌, ◌<◌, ◌≤◌, List, [], ◌∷◌, length, get_or, set, refl, ap, ◌∙◌, arith}
 use lib.Seq.{take-set-lt}
-use Rattle.std.proofs.lemmas.List.{length-set, length-take, take_all, take_more}
-use Rattle.std.proofs.lemmas.Bool.{cases_lt}
+use Rattle.std.proofs.lemmas.List.{length-set, length-take}
 use Rattle.std.proofs.lemmas.Bool.Decides.{nat_tests}
 use Rattle.stores.specs.Store.{cut_mark}
 use Rattle.stores.specs.Strips.{used, counted, strip_mark, strip_capacity}
 
--- one cell more at the end
-used_push : (cs : List ℕ) (v : ℕ) → used (cs ++ v ∷ []) ≡ cond (eqb v 255) (used cs) (length cs + 1)
-used_push [] v = grind (arith, nat_tests)
-used_push (x ∷ xs) v = let h = used_push xs v in grind (arith, nat_tests)
+-- cells of ff alone
+pub used_none : (cs : List ℕ) → ((k : ℕ) → k < length cs → get_or cs k 0 ≡ 255) → used cs ≡ 0
+used_none [] all = refl
+used_none (x ∷ xs) all =
+    let rest = used_none xs (λ k h. all (suc k) (omega arith)) in
+    let first : x ≡ 255 = all 0 (omega arith) in
+    grind (arith, nat_tests)
 
--- of n cells, the last one apart
-used-last : (cs : List ℕ) (n : ℕ) → 0 < n → n ≤ length cs → used (take n cs) ≡ cond (eqb (get_or cs (n - 1) 0) 255) (used (take (n - 1) cs)) n
-used-last cs n p h =
-    let back : n - 1 + 1 ≡ n = omega arith in
-    let last : take n cs ≡ take (n - 1) cs ++ get_or cs (n - 1) 0 ∷ [] = rw back at (take_more cs (n - 1) 0 (omega arith)) in
-    let push = used_push (take (n - 1) cs) (get_or cs (n - 1) 0) in
-    let long : length (take (n - 1) cs) + 1 ≡ n = omega (arith, length-take (n - 1) cs) in
-    ap used last ∙ push ∙ rw long
-
--- a last cell of ff is not used
-pub used_less : (cs : List ℕ) (n : ℕ) → 0 < n → n ≤ length cs → get_or cs (n - 1) 0 ≡ 255 → used (take (n - 1) cs) ≡ used (take n cs)
-used_less cs n p h e = let last = used-last cs n p h in grind (arith, nat_tests)
-
--- with another last cell, all are
-pub used_all : (cs : List ℕ) (n : ℕ) → 0 < n → n ≤ length cs → (get_or cs (n - 1) 0 ≡ 255 → ⊥) → n ≡ used (take n cs)
-used_all cs n p h e = let last = used-last cs n p h in grind (arith, nat_tests)
-
--- the cells that count are the first ones, as many as the capacity says
-pub counted-take : (cs : List ℕ) (n : ℕ) → n ≡ strip_capacity cs → take n cs ≡ counted cs
-counted-take cs n e = ⊎_elim
-    (λ h. take_all n cs (omega (arith, length-take 65536 cs)) ∙ sym (take_all 65536 cs (omega arith)))
-    (λ h. let m : n ≡ 65536 = omega (arith, length-take 65536 cs) in ap (λ k. take k cs) m)
-    (cases_lt (length cs) 65536)
+-- the last cell that is not ff
+pub used_last : (cs : List ℕ) (i : ℕ) → i < length cs → get_or cs i 0 ≢ 255 → ((k : ℕ) → i + 1 ≤ k → k < length cs → get_or cs k 0 ≡ 255) → used cs ≡ i + 1
+used_last [] i h e above = absurd (omega arith)
+used_last (x ∷ xs) zero h e above =
+    let rest = used_none xs (λ k h. above (suc k) (omega arith) (omega arith)) in
+    grind (arith, nat_tests)
+used_last (x ∷ xs) (suc i) h e above =
+    let rest = used_last xs i (omega arith) e (λ k p h. above (suc k) (omega arith) (omega arith)) in
+    grind (arith, nat_tests)
 
 -- a write to the first cell past the used ones: it is the first cell of all, or the first past the used ones of the rest
 used-set : (cs : List ℕ) (v : ℕ) → used cs < length cs → used (set cs (used cs) v) ≡ cut_mark (used cs) v

@@ -28,7 +28,7 @@ abbrev pub strip_cells : Strip → List ℕ
 strip_cells s = s.cells.now
 
 abbrev pub strip_store : Strip → Store
-strip_store s = store (strip_mark (strip_cells s)) (strip_capacity (strip_cells s)) s.power s.leftover s.on
+strip_store s = store (strip_mark (strip_cells s)) (strip_capacity (strip_cells s)) s.supply.power s.supply.leftover s.on
 
 -- a raise writes one cell, the one at the mark: 00 where it completes, the leftover byte where the power fails in it.
 -- It writes none where the strip is off or full. No other cell changes, counted or not.

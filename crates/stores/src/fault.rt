@@ -3,7 +3,7 @@ ghost use Rattle.stores.specs.Store.{raise_told};
 use refusals::Refusal;
 
 // Why a raise gave no mark.
-#[derive(Clone, Copy)]
+#[derive(Clone, Copy, Debug, PartialEq, Eq)]
 pub enum RaiseFault {
     // the mark has reached the capacity
     Full,

@@ -6,3 +6,4 @@ pub mod reading;
 pub mod register;
 pub mod store;
 pub mod strip;
+pub mod supply;

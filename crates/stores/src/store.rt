@@ -5,6 +5,7 @@ ghost use Rattle.stores.specs.Readings.{reading_store};
 
 use crate::fault::RaiseFault;
 use crate::reading::Reading;
+use crate::supply::Supply;
 
 // What a cell holds that was never written.
 pub const UNWRITTEN: u8 = 255;
@@ -14,9 +15,6 @@ pub const UNWRITTEN: u8 = 255;
 pub trait MarkStore {
     // the five things that a store means
     ghost meaning: { Self → Store };
-
-    // the mark is at most the capacity, and the capacity at most 2^53
-    ghost lawful: { (s : Self) → Lawful (meaning s) };
 
     // The five things, as numbers. It changes nothing, and works also while the store is off.
     fn reading(&self) -> Reading
@@ -29,8 +27,10 @@ pub trait MarkStore {
         ensures answer { answered raise_told result ≡ raise_answer (meaning self.old) }
         ensures after { meaning self.new ≡ raised (meaning self.old) };
 
-    // Puts the store on, with so many raises to complete and this byte for the next power failure. It refuses nothing, and
-    // leaves the mark and the capacity as they were.
-    fn restart(&mut self, power: u32, leftover: u8)
-        ensures { meaning self.new ≡ restarted (meaning self.old) power leftover };
+    // Puts the store on with this supply. It refuses nothing, and leaves the mark and the capacity as they were.
+    fn restart(&mut self, supply: Supply)
+        ensures { meaning self.new ≡ restarted (meaning self.old) supply.power supply.leftover };
+
+    // the mark is at most the capacity, and the capacity at most 2^53
+    ghost lawful: { (s : Self) → Lawful (meaning s) };
 }

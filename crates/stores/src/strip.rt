@@ -1,11 +1,12 @@
 ghost use Rattle.std.specs.Prelude.{◌≡◌, true};
 ghost use Rattle.refusals.specs.Answers.{answered};
 ghost use Rattle.stores.specs.Store.{store, raise_told, raise_answer, raised, restarted};
-ghost use Rattle.stores.specs.Strips.{strip_mark, strip_capacity, strip_cells, strip_store, strip-lawful, raised_cells};
+ghost use Rattle.stores.specs.Strips.{counted, strip_mark, strip_capacity, strip_cells, strip_store, strip-lawful, raised_cells};
 
 use crate::fault::RaiseFault;
 use crate::reading::Reading;
 use crate::store::{MarkStore, UNWRITTEN};
+use crate::supply::Supply;
 
 // A strip has no more cells that count than this.
 const COUNTED_CELLS: usize = 65536;
@@ -15,23 +16,22 @@ const COUNTED_CELLS: usize = 65536;
 #[derive(Drop)]
 pub struct Strip<'a> {
     cells: &'a mut [u8],
-    power: u32,
-    leftover: u8,
+    supply: Supply,
     on: bool,
 }
 
 impl<'a> Strip<'a> {
     // A strip of these cells that is on. The cells stay as they are, and the mark is what they say. Whoever lent them finds
     // in them at the end what the strip last held: the strip keeps the reference that it was given.
-    pub fn new(cells: &'a mut [u8], power: u32, leftover: u8) -> Strip<'a>
-        ensures meaning { strip_store result ≡ store (strip_mark cells.old) (strip_capacity cells.old) power leftover true }
+    pub fn new(cells: &'a mut [u8], supply: Supply) -> Strip<'a>
+        ensures meaning { strip_store result
+            ≡ store (strip_mark cells.old) (strip_capacity cells.old) supply.power supply.leftover true }
         ensures cells { strip_cells result ≡ cells.old }
         ensures lent { result.cells.ghost_name ≡ cells.entry.ghost_name }
     {
         Strip {
             cells,
-            power,
-            leftover,
+            supply,
             on: true,
         }
     }
@@ -43,28 +43,26 @@ impl<'a> Strip<'a> {
         &*self.cells
     }
 
+    fn counted(&self) -> &[u8]
+        ensures { result.now ≡ counted (strip_cells self.now) }
+    {
+        &self.cells[..COUNTED_CELLS.min(self.cells.len())]
+    }
+
     fn capacity(&self) -> usize
         ensures { result ≡ strip_capacity (strip_cells self.now) }
     {
-        if self.cells.len() < COUNTED_CELLS {
-            self.cells.len()
-        } else {
-            COUNTED_CELLS
-        }
+        self.counted().len()
     }
 
     // Looks from the last cell down: cells of ff may stand below a used one.
     fn mark(&self) -> usize
         ensures { result ≡ strip_mark (strip_cells self.now) }
     {
-        let mut n = self.capacity();
-        while n > 0 {
-            if self.cells[n - 1] != UNWRITTEN {
-                return n;
-            }
-            n -= 1;
+        match self.counted().iter().rposition(|cell| *cell != UNWRITTEN) {
+            Some(last) => last + 1,
+            None => 0,
         }
-        0
     }
 }
 
@@ -77,8 +75,8 @@ impl MarkStore for Strip<'_> {
         Reading {
             mark: self.mark() as u64,
             capacity: self.capacity() as u64,
-            power: self.power,
-            leftover: self.leftover,
+            power: self.supply.power,
+            leftover: self.supply.leftover,
             on: self.on,
         }
     }
@@ -88,7 +86,7 @@ impl MarkStore for Strip<'_> {
         ensures answer { answered raise_told result ≡ raise_answer (strip_store self.old) }
         ensures after { strip_store self.new ≡ raised (strip_store self.old) }
         ensures cells { strip_cells self.new
-            ≡ raised_cells (strip_cells self.old) self.old.on self.old.power self.old.leftover }
+            ≡ raised_cells (strip_cells self.old) self.old.on self.old.supply.power self.old.supply.leftover }
         ensures lent { self.new.cells.ghost_name ≡ self.old.cells.ghost_name }
     {
         if !self.on {
@@ -98,24 +96,23 @@ impl MarkStore for Strip<'_> {
         if mark == self.capacity() {
             return Err(RaiseFault::Full);
         }
-        if self.power == 0 {
-            self.cells[mark] = self.leftover;
+        if self.supply.power == 0 {
+            self.cells[mark] = self.supply.leftover;
             self.on = false;
             return Err(RaiseFault::PowerFailed);
         }
         self.cells[mark] = 0;
-        self.power -= 1;
+        self.supply.power -= 1;
         Ok(mark as u64)
     }
 
     // It leaves every cell as it was.
-    fn restart(&mut self, power: u32, leftover: u8)
-        ensures after { strip_store self.new ≡ restarted (strip_store self.old) power leftover }
+    fn restart(&mut self, supply: Supply)
+        ensures after { strip_store self.new ≡ restarted (strip_store self.old) supply.power supply.leftover }
         ensures cells { strip_cells self.new ≡ strip_cells self.old }
         ensures lent { self.new.cells.ghost_name ≡ self.old.cells.ghost_name }
     {
-        self.power = power;
-        self.leftover = leftover;
+        self.supply = supply;
         self.on = true;
     }
 }

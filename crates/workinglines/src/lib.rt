@@ -2,5 +2,4 @@
 #![tactic(auto)]
 
 pub mod session;
-mod stream;
 pub mod topic;

@@ -1,8 +1,11 @@
 ghost use Rattle.std.specs.Prelude.{◌≡◌};
-ghost use Rattle.workinglines.specs.Topics.{topic_of, hash_topic, stream_topic};
+ghost use Rattle.std.specs.Result.{result_ok};
+ghost use Rattle.workinglines.specs.Topics.{topic_of};
+
+use std::str::FromStr;
 
 // What a line is about.
-#[derive(Clone, Copy)]
+#[derive(Clone, Copy, Debug, PartialEq, Eq)]
 pub enum Topic {
     Cipher,
     Nonce,
@@ -14,37 +17,27 @@ pub enum Topic {
     Counters,
 }
 
-impl Topic {
-    // The topic that a word names, if any.
-    pub fn from_text(word: &str) -> Option<Topic>
-        ensures { result ≡ topic_of word.now }
-    {
-        match word {
-            "cipher" => Some(Topic::Cipher),
-            "nonce" => Some(Topic::Nonce),
-            _ => Topic::of_hash(word),
-        }
-    }
+// A word that names no topic.
+#[derive(Clone, Copy, Debug, PartialEq, Eq)]
+pub struct UnknownTopic;
 
-    fn of_hash(word: &str) -> Option<Topic>
-        ensures { result ≡ hash_topic word.now }
-    {
-        match word {
-            "product" => Some(Topic::Product),
-            "hash" => Some(Topic::Hash),
-            "piece" => Some(Topic::Piece),
-            _ => Topic::of_stream(word),
-        }
-    }
+// The topic that a word names, if any.
+impl FromStr for Topic {
+    type Err = UnknownTopic;
 
-    fn of_stream(word: &str) -> Option<Topic>
-        ensures { result ≡ stream_topic word.now }
-    {
+    ghost from_str_gives = { λ cs r. result_ok r ≡ topic_of cs };
+
+    fn from_str(word: &str) -> Result<Topic, UnknownTopic> {
         match word {
-            "mask" => Some(Topic::Mask),
-            "block" => Some(Topic::Block),
-            "counters" => Some(Topic::Counters),
-            _ => None,
+            "cipher" => Ok(Topic::Cipher),
+            "nonce" => Ok(Topic::Nonce),
+            "product" => Ok(Topic::Product),
+            "hash" => Ok(Topic::Hash),
+            "piece" => Ok(Topic::Piece),
+            "mask" => Ok(Topic::Mask),
+            "block" => Ok(Topic::Block),
+            "counters" => Ok(Topic::Counters),
+            _ => Err(UnknownTopic),
         }
     }
 }

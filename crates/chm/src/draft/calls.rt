@@ -1,41 +1,65 @@
-ghost use Rattle.std.specs.Prelude.{◌≡◌, [], length};
+ghost use Rattle.std.specs.Prelude.{◌≡◌, ◌+◌, [], length, take, nat_le};
 ghost use Rattle.method.specs.Published.{tag_block};
 ghost use Rattle.refusals.specs.Answers.{answered};
-ghost use Rattle.chm.specs.Drafts.{words_of, head_told, head_answer, headed, body_told, body_answer, bodied, body_out, sealed, tag_then_zeros};
+ghost use Rattle.chm.specs.Drafts.{words_of, head_told, header_answer, head_answer, headed, body_told, message_answer, body_answer, bodied, body_out, sealed, tag_then_zeros};
 ghost use Rattle.chm.specs.Laws.{DraftLaws};
 
 use crate::draft::{Draft, Sealed};
 use crate::fault::{BodyFault, HeadFault};
 use crate::words::KeyWords;
-use crate::words::calls::send;
-use ciphers::cipher::BlockCipher;
-use keystream::frame::block_of;
+use ciphers::cipher::Permutation;
+use keystream::Keystream;
 use keystream::hash::hash_keys;
+use method::limits::{HEADER_LIMIT, MESSAGE_LIMIT, TAG_MOST};
 use polyhash::running::Running;
 
-pub(crate) const HEADER_LIMIT: usize = 4096;
+// Whether so many bytes more keep within a limit.
+fn keeps_within(limit: usize, len: usize, more: usize) -> bool
+    ensures { result ≡ nat_le (len + more) limit }
+{
+    len <= limit && more <= limit - len
+}
 
-pub(crate) const MESSAGE_LIMIT: u64 = 1048576;
+// Tests whether a header takes so many bytes more.
+pub(crate) fn check_header_len(len: usize, more: usize) -> Result<(), HeadFault>
+    ensures { answered head_told result ≡ header_answer len more }
+{
+    if !keeps_within(HEADER_LIMIT, len, more) {
+        return Err(HeadFault::HeaderTooLong);
+    }
+    Ok(())
+}
+
+// Tests whether a message takes so many bytes more, over an output of `room` bytes.
+pub(crate) fn check_message_len(len: usize, more: usize, room: usize) -> Result<(), BodyFault>
+    ensures { answered body_told result ≡ message_answer len more room }
+{
+    if room != more {
+        return Err(BodyFault::LengthsDiffer);
+    }
+    if !keeps_within(MESSAGE_LIMIT, len, more) {
+        return Err(BodyFault::MessageTooLong);
+    }
+    Ok(())
+}
 
 impl Draft {
-    pub(crate) fn new<C: BlockCipher>(cipher: &C, nonce: u64, tag_len: u8) -> Draft
+    pub(crate) fn new<C: Permutation>(cipher: &C, nonce: u64, tag_len: u8) -> Draft
         ensures { result ≡ words_of (C.image cipher.now) nonce tag_len [] [] }
     {
         let (body_key, head_key) = hash_keys(cipher);
         Draft {
             nonce,
             tag_len,
-            body_key,
-            head_key,
-            first: block_of(cipher, nonce, 0),
+            first: Keystream::new(cipher, nonce).block_of(0),
             words: KeyWords {
                 len: 0,
                 veil: 0,
                 word: 0,
             },
-            body_hash: Running::new(),
+            body_hash: Running::new(body_key),
             head_len: 0,
-            head_hash: Running::new(),
+            head_hash: Running::new(head_key),
         }
     }
 
@@ -44,18 +68,15 @@ impl Draft {
         ensures answer { answered head_told result ≡ head_answer self.old piece.now }
         ensures after { self.new ≡ headed self.old piece.now }
     {
-        if self.head_len > HEADER_LIMIT || piece.len() > HEADER_LIMIT - self.head_len {
-            return Err(HeadFault::HeaderTooLong);
-        }
-        let key = self.head_key;
-        self.head_hash.absorb(key, piece);
+        check_header_len(self.head_len, piece.len())?;
+        self.head_hash.absorb(piece);
         self.head_len += piece.len();
         Ok(())
     }
 
     // Appends a piece of message and writes its ciphertext to an output of the same length. An output of another length is refused
     // as 3, a message that would pass 1,048,576 bytes as 2, in this order; draft and output then stay as they were.
-    pub fn body<C: BlockCipher>(
+    pub fn body<C: Permutation>(
         &mut self,
         cipher: &C,
         piece: &[u8],
@@ -65,17 +86,10 @@ impl Draft {
         ensures after { self.new ≡ bodied (C.image cipher.now) self.old piece.now (length out.old) }
         ensures wrote { out.new ≡ body_out (C.image cipher.now) self.old piece.now out.old }
     {
-        if out.len() != piece.len() {
-            return Err(BodyFault::LengthsDiffer);
-        }
-        let words = self.words;
-        if words.len > MESSAGE_LIMIT || piece.len() as u64 > MESSAGE_LIMIT - words.len {
-            return Err(BodyFault::MessageTooLong);
-        }
-        let after = send(cipher, self.nonce, words, piece, out);
-        self.words = after;
-        let key = self.body_key;
-        self.body_hash.absorb(key, out);
+        check_message_len(self.words.len, piece.len(), out.len())?;
+        let stream = Keystream::new(cipher, self.nonce);
+        self.words = self.words.send(&stream, piece, out);
+        self.body_hash.absorb(out);
         Ok(())
     }
 
@@ -85,26 +99,15 @@ impl Draft {
         ensures value { result ≡ sealed self }
         ensures laws { DraftLaws }
     {
-        let Draft {
-            nonce,
-            tag_len,
-            body_key,
-            head_key,
-            first,
-            words: _,
-            body_hash,
-            head_len: _,
-            head_hash,
-        } = self;
         let tag = tag_of(
-            body_hash.finish(body_key),
-            head_hash.finish(head_key),
-            first,
-            tag_len,
+            self.body_hash.finish(),
+            self.head_hash.finish(),
+            self.first,
+            self.tag_len,
         );
         Sealed {
-            nonce,
-            tag_len,
+            nonce: self.nonce,
+            tag_len: self.tag_len,
             tag,
         }
     }
@@ -115,8 +118,15 @@ fn tag_of(body_hash: u128, head_hash: u128, first: u128, tag_len: u8) -> [u8; 16
     ensures { result ≡ tag_then_zeros (tag_block body_hash head_hash first) tag_len }
 {
     let mut tag = method::tag_bytes(body_hash, head_hash, first);
-    for k in tag_len as usize..16 {
-        tag[k] = 0;
-    }
+    tag[TAG_MOST.min(tag_len as usize)..].fill(0);
     tag
+}
+
+impl Sealed {
+    // The tag without the zeros behind it.
+    pub fn tag(&self) -> &[u8]
+        ensures { result.now ≡ take self.now.tag_len self.now.tag }
+    {
+        &self.tag[..TAG_MOST.min(self.tag_len as usize)]
+    }
 }

@@ -1,19 +1,28 @@
 ghost use Rattle.std.specs.Prelude.{◌≡◌, true, None};
 ghost use Rattle.refusals.specs.Answers.{answered};
 ghost use Rattle.stores.specs.Store.{raise_told};
-ghost use Rattle.chm.specs.Sealers.{standing, sealer_standing, issue_answer, issued, begin_told, begin_answer, begun, restarted_sealer};
+ghost use Rattle.chm.specs.Sealers.{standing, sealer_standing, issue_answer, issued, begin_told, tag_answer, begin_answer, begun, restarted_sealer};
 
-use crate::batch::Batch;
+use crate::batch::{BATCH_NONCES, Batch};
 use crate::draft::Draft;
 use crate::fault::BeginFault;
 use crate::sealer::Sealer;
-use ciphers::cipher::BlockCipher;
+use ciphers::cipher::Permutation;
 use stores::fault::RaiseFault;
 use stores::store::MarkStore;
+use stores::supply::Supply;
 
-const BATCH_NONCES: u16 = 1024;
+// Tests the length of a tag.
+pub(crate) fn check_tag_len(tag_len: u8) -> Result<(), BeginFault>
+    ensures { answered begin_told result ≡ tag_answer tag_len }
+{
+    if tag_len < 12 || tag_len > 16 {
+        return Err(BeginFault::TagLength);
+    }
+    Ok(())
+}
 
-impl<C: BlockCipher, S: MarkStore> Sealer<C, S> {
+impl<C: Permutation, S: MarkStore> Sealer<C, S> {
     // Set-up: live and without a batch, over a cipher and a store as it is.
     pub fn new(cipher: C, store: S) -> Sealer<C, S>
         ensures stands { sealer_standing S.meaning result ≡ standing (S.meaning store) true None }
@@ -40,13 +49,10 @@ impl<C: BlockCipher, S: MarkStore> Sealer<C, S> {
         ensures after { sealer_standing S.meaning self.new ≡ issued (sealer_standing S.meaning self.old) }
         ensures cipher { self.new.cipher ≡ self.old.cipher }
     {
-        if let Some(batch) = self.batch {
-            if batch.given < BATCH_NONCES {
-                self.batch = Some(Batch {
-                    number: batch.number,
-                    given: batch.given + 1,
-                });
-                return Ok(1024 * batch.number + batch.given as u64);
+        if let Some(mut batch) = self.batch {
+            if let Some(nonce) = batch.next() {
+                self.batch = Some(batch);
+                return Ok(nonce);
             }
         }
         let raised = self.store.raise();
@@ -55,7 +61,7 @@ impl<C: BlockCipher, S: MarkStore> Sealer<C, S> {
         }
         let number = raised?;
         self.batch = Some(Batch { number, given: 1 });
-        Ok(1024 * number)
+        Ok(BATCH_NONCES * number)
     }
 
     // Hands out a draft under the next nonce. It refuses a tag length outside 12 to 16 (4), and uses no nonce then; a sealer that is
@@ -66,9 +72,7 @@ impl<C: BlockCipher, S: MarkStore> Sealer<C, S> {
         ensures after { sealer_standing S.meaning self.new ≡ begun (sealer_standing S.meaning self.old) tag_len }
         ensures cipher { self.new.cipher ≡ self.old.cipher }
     {
-        if tag_len < 12 || tag_len > 16 {
-            return Err(BeginFault::TagLength);
-        }
+        check_tag_len(tag_len)?;
         if !self.live {
             return Err(BeginFault::Down);
         }
@@ -76,13 +80,13 @@ impl<C: BlockCipher, S: MarkStore> Sealer<C, S> {
         Ok(Draft::new(&self.cipher, nonce, tag_len))
     }
 
-    // Live again, without a batch, over the store restarted with this power and leftover byte. What was left of the batch is never
-    // given out, and open drafts go on.
-    pub fn restart(&mut self, power: u32, leftover: u8)
-        ensures after { sealer_standing S.meaning self.new ≡ restarted_sealer (sealer_standing S.meaning self.old) power leftover }
+    // Live again, without a batch, over the store restarted with this supply. What was left of the batch is never given out, and
+    // open drafts go on.
+    pub fn restart(&mut self, supply: Supply)
+        ensures after { sealer_standing S.meaning self.new ≡ restarted_sealer (sealer_standing S.meaning self.old) supply.power supply.leftover }
         ensures cipher { self.new.cipher ≡ self.old.cipher }
     {
-        self.store.restart(power, leftover);
+        self.store.restart(supply);
         self.live = true;
         self.batch = None;
     }

@@ -5,31 +5,23 @@ ghost use Rattle.chm.specs.Sealers.{sealer_standing};
 ghost use Rattle.chm.specs.Seals.{seal_told, sizes_answer, seal_answer, sealed_standing, seal_out};
 
 use crate::draft::Sealed;
-use crate::draft::calls::{HEADER_LIMIT, MESSAGE_LIMIT};
-use crate::fault::{BeginFault, BodyFault, HeadFault, SealFault};
+use crate::draft::calls::{check_header_len, check_message_len};
+use crate::fault::SealFault;
 use crate::sealer::Sealer;
-use ciphers::cipher::BlockCipher;
+use crate::sealer::calls::check_tag_len;
+use ciphers::cipher::Permutation;
 use stores::store::MarkStore;
 
 fn sizes_fit(tag_len: u8, header: usize, message: usize, room: usize) -> Result<(), SealFault>
     ensures { answered seal_told result ≡ sizes_answer tag_len header message room }
 {
-    if tag_len < 12 || tag_len > 16 {
-        return Err(SealFault::Begin(BeginFault::TagLength));
-    }
-    if header > HEADER_LIMIT {
-        return Err(SealFault::Head(HeadFault::HeaderTooLong));
-    }
-    if room != message {
-        return Err(SealFault::Body(BodyFault::LengthsDiffer));
-    }
-    if message as u64 > MESSAGE_LIMIT {
-        return Err(SealFault::Body(BodyFault::MessageTooLong));
-    }
+    check_tag_len(tag_len)?;
+    check_header_len(0, header)?;
+    check_message_len(0, message, room)?;
     Ok(())
 }
 
-impl<C: BlockCipher, S: MarkStore> Sealer<C, S> {
+impl<C: Permutation, S: MarkStore> Sealer<C, S> {
     // Seals a header and a message under the next nonce, and writes the ciphertext to an output of the message's length. A tag length
     // outside 12 to 16 (4), a header over 4,096 bytes (1), an output of another length (3) and a message over 1,048,576 bytes (2) are
     // refused first and use no nonce; then begin's refusals (21, 22, 23). The output stays as it was where anything is refused.

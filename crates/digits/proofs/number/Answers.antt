@@ -1,23 +1,18 @@
 -- A turn reads one digit more, or meets a character that is none.
-use Rattle.std.proofs.Common.{◌≡◌, ℕ, ◌+◌, ◌*◌, ◌^◌, ◌<◌, List, get_or, Some, sym, ap, ◌∙◌, subst, arith}
-use Rattle.std.proofs.lemmas.List.{take_all}
-use Rattle.digits.specs.Digits.{value_of, digits_number}
+use Rattle.std.proofs.Common.{◌≡◌, ℕ, ◌+◌, ◌*◌, ◌^◌, ◌<◌, List, get_or, Some, sym, ◌∙◌, arith}
+use Rattle.digits.specs.Digits.{value_of}
 use Rattle.digits.proofs.Numbers.{value_lt, number_none, number_more, number_stops, number_of_accepts, more_bits, few_bits}
 use Rattle.digits.proofs.number.Goals as goal
 
 pub loop-c-init : goal.loop-c-init
 loop-c-init c = (sym number_none, omega arith)
 
-pub returns-in_err-value : goal.returns-in_err-value
-returns-in_err-value c =
+pub returns-in_err-value-clause-value : goal.returns-in_err-value-clause-value
+returns-in_err-value-clause-value c =
     let cs = c.args.text.now in
-    record {
-      value =
-          c.from_residual.ensures
-          ∙ number_stops cs c.loop-c.c-index (omega arith) (sym c.in_err-value.was ∙ c.digit_value.ensures)
-          ∙ sym (number_of_accepts c.args.count cs (omega arith) (omega arith));
-      bound = rw c.from_residual.ensures tt;
-    }
+    c.from_residual.ensures
+    ∙ number_stops cs c.loop-c.c-index (omega arith) (sym c.in_err-value.was ∙ c.digit_value.ensures)
+    ∙ sym (number_of_accepts c.args.count cs (omega arith) (omega arith))
 
 -- what a turn makes of the sum fits
 next_fits : (cs : List ℕ) (i n d : ℕ) → i < 32 → n < 2 ^ (4 * i) → Some d ≡ value_of (get_or cs i 0) → n * 16 + d < 2 ^ 128
@@ -41,15 +36,3 @@ loop-c-preserved c =
       number_more cs i c.loop-c.sum c.in_ok-value.value (omega arith) c.loop-c.invariant.0 c.in_ok-value.ensures,
       more_bits c.loop-c.sum c.in_ok-value.value i c.loop-c.invariant.1 d,
     )
-
-pub returns : goal.returns
-returns c =
-    let cs = c.args.text.now in
-    let all : c.loop-c.c-index ≡ c.args.count = omega arith in
-    record {
-      value =
-          sym (number_of_accepts c.args.count cs (omega arith) (omega arith)
-          ∙ ap digits_number (sym (take_all c.loop-c.c-index cs (omega arith)))
-          ∙ c.loop-c.invariant.0);
-      bound = subst (λ k. c.loop-c.sum < 2 ^ (4 * k)) all c.loop-c.invariant.1;
-    }

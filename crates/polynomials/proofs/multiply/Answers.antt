@@ -1,21 +1,10 @@
 -- 128 turns move all terms of b into the sum, and then it is the product.
-use Rattle.std.proofs.Common.{◌≡◌, ℕ, zero, suc, ◌*◌, ◌/◌, ◌%◌, ◌^◌, ◌<◌, sym, ap, ◌∙◌, ap₂, one-mul, zero-mul, arith}
+use Rattle.std.proofs.Common.{◌≡◌, ℕ, ◌*◌, ◌/◌, ◌%◌, ◌^◌, ◌<◌, sym, ap, ◌∙◌, ap₂, arith}
 use lib.Bits.{bit_xor, bit_and, xor_assoc, xor_zero_r, and_mask}
 use Rattle.std.proofs.lemmas.Nat.{shr-shr}
 use Rattle.polynomials.specs.Polynomials.{product, times_x}
 use Rattle.polynomials.proofs.Products.{product_step, product_zero, product_laws, ring}
 use Rattle.polynomials.proofs.multiply.Goals as goal
-
--- a coefficient times a block is a block
-small : (p a : ℕ) → p < 2 → a < 2 ^ 128 → p * a < 2 ^ 128
-small zero a hp h = omega (arith, zero-mul a)
-small (suc zero) a hp h = omega (arith, one-mul a)
-small (suc (suc p)) a hp h = omega arith
-
-pub overflow_mul-sum : goal.overflow_mul-sum
-overflow_mul-sum c =
-    let p = c.loop-i in
-    omega (arith, small (bit_and p.rest 1) p.shifted (omega (arith, and_mask p.rest 1)) p.invariant.0)
 
 -- a turn moves the lowest term of the rest into the sum
 turn : (sum x m next : ℕ) → x < 2 ^ 128 → next ≡ times_x x →
@@ -25,19 +14,19 @@ turn sum x m next h d =
     ∙ xor_assoc sum (m % 2 * x) (product (times_x x) (m / 2))
     ∙ ap (bit_xor sum) (sym (product_step x m h))
 
-pub loop-i-preserved : goal.loop-i-preserved
-loop-i-preserved c =
-    let p = c.loop-i in
+pub loop-preserved : goal.loop-preserved
+loop-preserved c =
+    let p = c.loop in
     let next = c.times_x-shifted in (
       omega arith,
-      ap (λ n. n / 2) p.invariant.1 ∙ shr-shr c.args.b p.i 1,
+      ap (λ n. n / 2) p.invariant.1 ∙ shr-shr c.args.b p.counter 1,
       turn p.sum p.shifted p.rest next.result p.invariant.0 next.ensures ∙ p.invariant.2,
     )
 
 pub returns : goal.returns
 returns c =
-    let p = c.loop-i in
-    let done : p.i ≡ 128 = omega arith in
+    let p = c.loop in
+    let done : p.counter ≡ 128 = omega arith in
     let none : c.args.b / 2 ^ 128 ≡ 0 = omega arith in
     let rest : p.rest ≡ 0 = p.invariant.1 ∙ ap (λ n. c.args.b / 2 ^ n) done ∙ none in
     let value : p.sum ≡ product c.args.a c.args.b =

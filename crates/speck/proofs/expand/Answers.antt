@@ -33,11 +33,11 @@ loop-i-preserved c =
     let s : Schedule = record { k = p.k; l = p.l; l1 = p.l1; l2 = p.l2 } in
     let key = c.args.key.now in (
       simp length-set p.invariant.0,
-      more_keys key p.keys p.i s (omega arith) p.invariant.2 p.invariant.1,
+      more_keys key p.key-items p.i s (omega arith) p.invariant.2 p.invariant.1,
       schedule-more key p.i s c.next_words-next_l.result p.invariant.2 c.next_words-next_l.ensures ∙ ap (schedule key) (sym (add-one p.i)),
     )
 
 pub returns : goal.returns
 returns c =
     let p = c.loop-i in
-    keyed c.args.key.now p.keys (λ j h. p.invariant.1 j (omega arith))
+    keyed c.args.key.now p.key-items (λ j h. p.invariant.1 j (omega arith))

@@ -6,9 +6,9 @@ use crate::fault::RaiseFault;
 use crate::reading::Reading;
 use crate::register::Register;
 use crate::store::{MarkStore, UNWRITTEN};
+use crate::supply::Supply;
 
-// 2^53
-const REGISTER_CAPACITY: u64 = 9007199254740992;
+const REGISTER_CAPACITY: u64 = 1 << 53;
 
 // Follows what a cell would say: a byte of ff cannot be told from a cell that was never written.
 fn cut_mark(mark: u64, leftover: u8) -> u64
@@ -24,18 +24,12 @@ fn cut_mark(mark: u64, leftover: u8) -> u64
 
 impl Register {
     // A register that is on, at this mark or at its capacity, whichever is less.
-    pub fn new(mark: u64, power: u32, leftover: u8) -> Register
-        ensures { register_store result ≡ store (min mark (2 ^ 53)) (2 ^ 53) power leftover true }
+    pub fn new(mark: u64, supply: Supply) -> Register
+        ensures { register_store result ≡ store (min mark (2 ^ 53)) (2 ^ 53) supply.power supply.leftover true }
     {
-        let start = if mark < REGISTER_CAPACITY {
-            mark
-        } else {
-            REGISTER_CAPACITY
-        };
         Register {
-            mark: start,
-            power,
-            leftover,
+            mark: mark.min(REGISTER_CAPACITY),
+            supply,
             on: true,
         }
     }
@@ -50,8 +44,8 @@ impl MarkStore for Register {
         Reading {
             mark: self.mark,
             capacity: REGISTER_CAPACITY,
-            power: self.power,
-            leftover: self.leftover,
+            power: self.supply.power,
+            leftover: self.supply.leftover,
             on: self.on,
         }
     }
@@ -64,19 +58,18 @@ impl MarkStore for Register {
         if mark == REGISTER_CAPACITY {
             return Err(RaiseFault::Full);
         }
-        if self.power == 0 {
-            self.mark = cut_mark(mark, self.leftover);
+        if self.supply.power == 0 {
+            self.mark = cut_mark(mark, self.supply.leftover);
             self.on = false;
             return Err(RaiseFault::PowerFailed);
         }
         self.mark = mark + 1;
-        self.power -= 1;
+        self.supply.power -= 1;
         Ok(mark)
     }
 
-    fn restart(&mut self, power: u32, leftover: u8) {
-        self.power = power;
-        self.leftover = leftover;
+    fn restart(&mut self, supply: Supply) {
+        self.supply = supply;
         self.on = true;
     }
 }

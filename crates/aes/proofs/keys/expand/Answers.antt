@@ -11,7 +11,7 @@ pub loop-i-preserved : goal.loop-i-preserved
 loop-i-preserved c =
     let p = c.loop-i in (
       simp length-set p.invariant.0,
-      λ key e. begun_more key p.i p.k _ p.keys (omega arith) (p.invariant.1 key e) c.next_round_key-next.ensures,
+      λ key e. begun_more key p.i p.k _ p.keys (omega arith) (p.invariant.1 key e) c.next_round_key-columns.ensures,
     )
 
 pub returns : goal.returns

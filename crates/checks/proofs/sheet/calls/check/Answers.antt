@@ -1,32 +1,24 @@
--- Each refusal in its order, and the comparison of the tag.
-use Rattle.std.proofs.Common.{sym, refl, ap, ◌∙◌, arith, rules}
-use Rattle.checks.proofs.Checks.{check_is, Outcome}
+-- The limits, and then what is answered to the tag.
+use Rattle.std.proofs.Common.{rules}
 use Rattle.checks.proofs.Proved.{check_laws}
+use Rattle.checks.proofs.Tags.{checked_by}
 use Rattle.checks.proofs.sheet.calls.check.Goals as goal
 
-pub returns-then-tag-lt-TAG_LEAST : goal.returns-then-tag-lt-TAG_LEAST
-returns-then-tag-lt-TAG_LEAST g c = record { answer = search rules; sheet = tt; laws = check_laws }
+pub returns-in_err-within_limits-clause-laws : goal.returns-in_err-within_limits-clause-laws
+returns-in_err-within_limits-clause-laws g c = check_laws
 
-pub returns-then-nonce-ge-NONCE_END : goal.returns-then-nonce-ge-NONCE_END
-returns-then-nonce-ge-NONCE_END g c = record { answer = search rules; sheet = tt; laws = check_laws }
+pub returns-in_err-confirm_tag-clause-answer : goal.returns-in_err-confirm_tag-clause-answer
+returns-in_err-confirm_tag-clause-answer g c =
+    checked_by (g.C.Permutation.image c.args.cipher.now) c.args.sheet.now.nonce c.hash_of-ciphertext_hash.result c.hash_of-header_hash.result
+    c.args.sheet.now.header.now c.args.sheet.now.ciphertext.now c.args.sheet.now.tag.now _ (search rules) (search rules) (search rules) (search rules)
 
-pub returns-then-header-gt-HEADER_LIMIT : goal.returns-then-header-gt-HEADER_LIMIT
-returns-then-header-gt-HEADER_LIMIT g c = record { answer = search rules; sheet = tt; laws = check_laws }
+pub returns-in_err-confirm_tag-clause-laws : goal.returns-in_err-confirm_tag-clause-laws
+returns-in_err-confirm_tag-clause-laws g c = check_laws
 
-pub returns-then-ciphertext-gt-MESSAGE_LIMIT : goal.returns-then-ciphertext-gt-MESSAGE_LIMIT
-returns-then-ciphertext-gt-MESSAGE_LIMIT g c = record { answer = search rules; sheet = tt; laws = check_laws }
+pub returns-clause-answer : goal.returns-clause-answer
+returns-clause-answer g c =
+    checked_by (g.C.Permutation.image c.args.cipher.now) c.args.sheet.now.nonce c.hash_of-ciphertext_hash.result c.hash_of-header_hash.result
+    c.args.sheet.now.header.now c.args.sheet.now.ciphertext.now c.args.sheet.now.tag.now _ (search rules) (search rules) (search rules) (search rules)
 
--- within the limits the answer is that of the comparison
-pub returns-then-not-same_front : goal.returns-then-not-same_front
-returns-then-not-same_front g c =
-    let is = check_is (g.C.BlockCipher.image c.args.cipher.now) c.args.nonce c.args.header.now c.args.ciphertext.now c.args.tag.now
-    c.same_front.result c.full_tag-full.result (omega arith) (omega arith) (omega arith) (omega arith) (omega arith)
-    c.full_tag-full.ensures c.same_front.ensures in
-    record { answer = sym (is ∙ ap Outcome c.if-not-same_front.true); sheet = tt; laws = check_laws }
-
-pub returns : goal.returns
-returns g c =
-    let is = check_is (g.C.BlockCipher.image c.args.cipher.now) c.args.nonce c.args.header.now c.args.ciphertext.now c.args.tag.now
-    c.same_front.result c.full_tag-full.result (omega arith) (omega arith) (omega arith) (omega arith) (omega arith)
-    c.full_tag-full.ensures c.same_front.ensures in
-    record { answer = sym (is ∙ ap Outcome c.if-not-same_front.false); sheet = (refl, refl); laws = check_laws }
+pub returns-clause-laws : goal.returns-clause-laws
+returns-clause-laws g c = check_laws

@@ -9,20 +9,20 @@ use Rattle.checks.proofs.sheet.confirm.confirm_tag.Goals as goal
 
 pub returns-then-tag-gt16 : goal.returns-then-tag-gt16
 returns-then-tag-gt16 g c =
-    let b : ℕ = tag_block c.args.ciphertext_hash c.args.header_hash (block_at (g.C.BlockCipher.image c.args.cipher.now) c.args.nonce 0) in
+    let b : ℕ = tag_block c.args.ciphertext_hash c.args.header_hash (block_at (g.C.Permutation.image c.args.cipher.now) c.args.nonce 0) in
     let t = c.args.tag.now in
     sym (told_by b (bytes_of 16 b) t false refl (too_long (bytes_of 16 b) t (omega (arith, length-bytes_of 16 b))))
 
-pub returns-then-same_front : goal.returns-then-same_front
-returns-then-same_front g c =
-    let b : ℕ = tag_block c.args.ciphertext_hash c.args.header_hash (block_at (g.C.BlockCipher.image c.args.cipher.now) c.args.nonce 0) in
+pub returns-then-not-same_front : goal.returns-then-not-same_front
+returns-then-not-same_front g c =
+    let b : ℕ = tag_block c.args.ciphertext_hash c.args.header_hash (block_at (g.C.Permutation.image c.args.cipher.now) c.args.nonce 0) in
     let f = c.tag_bytes-full.result in
     let t = c.args.tag.now in
-    sym (told_by b f t true (search rules) (compared c.same_front.result f t c.same_front.ensures ∙ c.if-same_front.true))
+    sym (told_by b f t false (search rules) (compared c.same_front.result f t c.same_front.ensures ∙ c.if-not-same_front.true))
 
-pub returns-else-same_front : goal.returns-else-same_front
-returns-else-same_front g c =
-    let b : ℕ = tag_block c.args.ciphertext_hash c.args.header_hash (block_at (g.C.BlockCipher.image c.args.cipher.now) c.args.nonce 0) in
+pub returns : goal.returns
+returns g c =
+    let b : ℕ = tag_block c.args.ciphertext_hash c.args.header_hash (block_at (g.C.Permutation.image c.args.cipher.now) c.args.nonce 0) in
     let f = c.tag_bytes-full.result in
     let t = c.args.tag.now in
-    sym (told_by b f t false (search rules) (compared c.same_front.result f t c.same_front.ensures ∙ c.if-same_front.false))
+    sym (told_by b f t true (search rules) (compared c.same_front.result f t c.same_front.ensures ∙ c.if-not-same_front.false))

@@ -1,7 +1,6 @@
--- The words, tied to the published method.
-use Rattle.std.proofs.Common.{rules}
+-- The laws on drafts, for every list of pieces.
 use Rattle.chm.proofs.Pieces.{draft_laws}
 use Rattle.chm.proofs.draft.Draft.finish.Goals as goal
 
-pub returns : goal.returns
-returns c = record { value = search rules; laws = draft_laws }
+pub returns-clause-laws : goal.returns-clause-laws
+returns-clause-laws c = draft_laws

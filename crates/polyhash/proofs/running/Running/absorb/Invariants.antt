@@ -5,4 +5,4 @@ use Rattle.polyhash.proofs.running.Running.absorb.Given as goal
 
 -- the bytes before this one are absorbed
 abbrev pub invariant-loop-b : goal.invariant-loop-b
-invariant-loop-b l = l.self ≡ absorbed l.key l.initial.self (take l.b-index l.bytes)
+invariant-loop-b l = l.self ≡ absorbed l.initial.self (take l.b-index l.bytes)

@@ -46,7 +46,7 @@ completed cs m p v on o e h q =
 pub returns-then-mark-capacity : goal.returns-then-mark-capacity
 returns-then-mark-capacity c =
     let s = c.args.self.now in
-    let x = refused s.cells.now s.power s.leftover s.on c.if-not-self.false (omega arith) in
+    let x = refused s.cells.now s.supply.power s.supply.leftover s.on c.if-not-self.false (omega arith) in
     record { answer = x.answer; after = x.after; cells = x.cells; lent = refl }
 
 pub bounds-self-mark : goal.bounds-self-mark
@@ -57,7 +57,7 @@ returns-then-self-eq0 c =
     let s = c.args.self.now in
     let on = c.if-not-self.false in
     let h : strip_mark s.cells.now < strip_capacity s.cells.now = omega (arith, used-within (counted s.cells.now)) in
-    let x = cut s.cells.now c.mark-mark.result s.power s.leftover s.on on c.mark-mark.ensures h c.if-self-eq0.true in
+    let x = cut s.cells.now c.mark-mark.result s.supply.power s.supply.leftover s.on on c.mark-mark.ensures h c.if-self-eq0.true in
     record { answer = x.answer; after = x.after; cells = x.cells; lent = refl }
 
 pub bounds-self-mark-2 : goal.bounds-self-mark-2
@@ -68,5 +68,5 @@ returns c =
     let s = c.args.self.now in
     let on = c.if-not-self.false in
     let h : strip_mark s.cells.now < strip_capacity s.cells.now = omega (arith, used-within (counted s.cells.now)) in
-    let x = completed s.cells.now c.mark-mark.result s.power s.leftover s.on on c.mark-mark.ensures h (omega arith) in
+    let x = completed s.cells.now c.mark-mark.result s.supply.power s.supply.leftover s.on on c.mark-mark.ensures h (omega arith) in
     record { answer = x.answer; after = x.after; cells = x.cells; lent = refl }

@@ -1,6 +1,0 @@
--- Each store takes at least one line.
-use Rattle.std.proofs.Common.{◌-◌, vec_len}
-use Rattle.marktrace.proofs.run.Given as goal
-
-abbrev pub decreases-loop-at : goal.decreases-loop-at
-decreases-loop-at l = vec_len l.lines - l.at
