@@ -27,6 +27,6 @@ told_bytes [] text = tt
 told_bytes (w ∷ ws) text =
     bytes_append (unhex (take (2 * w) text)) (bytes_in ws (drop (2 * w + 1) text)) (unhex_bytes (take (2 * w) text)) (told_bytes ws (drop (2 * w + 1) text))
 
-pub absorbed_none : (k : ℕ) (s : Running) → s ≡ absorbed k s []
+pub absorbed_none : (s : Running) → s ≡ absorbed s []
 unfolding absorbed
-absorbed_none k s = refl
+absorbed_none s = refl

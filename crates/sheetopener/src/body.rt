@@ -36,17 +36,17 @@ pub(crate) fn hash_body(key: u128, text: &[u8], message_len: usize) -> u128
     requires { lines_size (frames_of message_len) ≤ length text.now }
     ensures { result ≡ hash key (bytes_in (frames_of message_len) text.now) }
 {
-    let mut running = Running::new();
+    let mut running = Running::new(key);
     let mut line = [0; LATER_FRAME];
     let mut rest = text;
     for width in Frames::of(message_len) {
         let (digits, others) = split_line(rest, width);
         let part = &mut line[..width];
         decode(digits, part);
-        running.absorb(key, part);
+        running.absorb(part);
         rest = others;
     }
-    running.finish(key)
+    running.finish()
 }
 
 // Fills a buffer with a ciphertext that a text's first lines tell.

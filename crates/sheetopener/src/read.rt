@@ -9,10 +9,10 @@ ghost use Rattle.sheetopener.specs.Opens.{at_front};
 use crate::body::{hash_body, hash_line, split_line, take_body};
 use checks::fault::CheckFault;
 use checks::sheet::confirm::confirm_tag;
-use ciphers::cipher::BlockCipher;
+use ciphers::cipher::Permutation;
 use digits::codec::decode;
+use keystream::Keystream;
 use keystream::hash::hash_keys;
-use keystream::stream::xor_onto;
 use method::limits::TAG_MOST;
 use sheetlines::fields::Fields;
 use sheetlines::layout::HEADER_AT;
@@ -26,18 +26,12 @@ pub(crate) struct ReadSheet<'a> {
 }
 
 impl ReadSheet<'_> {
-    // The digits of the header's line.
-    fn header_digits(&self) -> &[u8]
-        ensures { result.now ≡ take (2 * self.now.fields.header_len) (drop header_at self.now.text.now) }
+    // The digits of the header's line, and the lines after it.
+    fn header_and_body(&self) -> (&[u8], &[u8])
+        ensures header { result.0.now ≡ take (2 * self.now.fields.header_len) (drop header_at self.now.text.now) }
+        ensures body { result.1.now ≡ drop (cipher_at self.now.fields) self.now.text.now }
     {
-        split_line(&self.text[HEADER_AT..], self.fields.header_len).0
-    }
-
-    // The lines of the ciphertext, and that of the tag.
-    fn body(&self) -> &[u8]
-        ensures { result.now ≡ drop (cipher_at self.now.fields) self.now.text.now }
-    {
-        split_line(&self.text[HEADER_AT..], self.fields.header_len).1
+        split_line(&self.text[HEADER_AT..], self.fields.header_len)
     }
 
     // The digits of the tag's line, which is the last.
@@ -49,14 +43,15 @@ impl ReadSheet<'_> {
     }
 
     // Confirms the tag. Nothing is deciphered.
-    pub(crate) fn confirm<C: BlockCipher>(&self, cipher: &C) -> Result<(), CheckFault>
+    pub(crate) fn confirm<C: Permutation>(&self, cipher: &C) -> Result<(), CheckFault>
         ensures { answered check_told result ≡ check_answer (C.image cipher.now) self.now.fields.nonce
             (header_of self.now.fields self.now.text.now) (cipher_of self.now.fields self.now.text.now)
             (tag_of self.now.fields self.now.text.now) }
     {
         let (ciphertext_key, header_key) = hash_keys(cipher);
-        let header_hash = hash_line(header_key, self.header_digits());
-        let ciphertext_hash = hash_body(ciphertext_key, self.body(), self.fields.message_len);
+        let (header, body) = self.header_and_body();
+        let header_hash = hash_line(header_key, header);
+        let ciphertext_hash = hash_body(ciphertext_key, body, self.fields.message_len);
         let mut bytes = [0; TAG_MOST];
         let tag = &mut bytes[..self.fields.tag_len];
         decode(self.tag_digits(), tag);
@@ -74,17 +69,19 @@ impl ReadSheet<'_> {
         requires { self.now.fields.header_len ≤ length out.old }
         ensures { out.new ≡ at_front (header_of self.now.fields self.now.text.now) out.old }
     {
-        decode(self.header_digits(), &mut out[..self.fields.header_len]);
+        let (header, _) = self.header_and_body();
+        decode(header, &mut out[..self.fields.header_len]);
     }
 
     // Puts the message to the front of a buffer: the ciphertext, deciphered in place.
-    pub(crate) fn give_message<C: BlockCipher>(&self, cipher: &C, out: &mut [u8])
+    pub(crate) fn give_message<C: Permutation>(&self, cipher: &C, out: &mut [u8])
         requires { self.now.fields.message_len ≤ length out.old }
         ensures { out.new ≡ at_front
             (crypt (C.image cipher.now) self.now.fields.nonce (cipher_of self.now.fields self.now.text.now)) out.old }
     {
         let message = &mut out[..self.fields.message_len];
-        take_body(self.body(), message);
-        xor_onto(cipher, self.fields.nonce, 0, message);
+        let (_, body) = self.header_and_body();
+        take_body(body, message);
+        Keystream::new(cipher, self.fields.nonce).xor_onto(0, message);
     }
 }

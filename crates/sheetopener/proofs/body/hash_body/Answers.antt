@@ -2,6 +2,8 @@
 use Rattle.std.proofs.Common.{◌≡◌, ℕ, ◌+◌, ◌*◌, List, ◌++◌, length, take, drop, sym, ap, ◌∙◌, subst, arith, rules}
 use Rattle.std.proofs.lemmas.List.{places, length-drop, length-take-le}
 use Rattle.digits.specs.Hex.{unhex}
+use Rattle.polyhash.proofs.Runs.{laws}
+use Rattle.polyhash.specs.Hash.{hash}
 use Rattle.polyhash.specs.Running.{started, absorbed}
 use Rattle.polyhash.specs.declared.running.Running.{Running}
 use Rattle.sheetlines.proofs.Widths.{Narrow, narrow_frames_of}
@@ -16,7 +18,7 @@ loop-width-init c =
     let is : c.into_iter-width-iterator.result ≡ frames_of c.args.message_len = c.into_iter-width-iterator.ensures.into_iter_gives ∙ c.of-width-items.ensures in
     record {
       finite = tt;
-      hashed = (λ i. absorbed c.args.key (c.new-running.ensures i) (bytes_in (is i) text));
+      hashed = (λ i. absorbed (c.new-running.ensures i) (bytes_in (is i) text));
       within = omega (arith, ap lines_size is, c.requires);
       narrow = subst Narrow (sym is) (narrow_frames_of c.args.message_len);
       line = omega arith;
@@ -24,7 +26,6 @@ loop-width-init c =
 
 pub loop-width-preserved : goal.loop-width-preserved
 loop-width-preserved c =
-    let key = c.args.key in
     let before = c.loop-width.invariant in
     let running = c.loop-width.running in
     let text = c.loop-width.rest.now in
@@ -41,10 +42,10 @@ loop-width-preserved c =
     let fewer = ap length others ∙ length-drop (2 * w + 1) text in
     record {
       finite = tt;
-      hashed = ap (λ (xs : List ℕ). absorbed key c.absorb.new.self (bytes_in ws xs)) others
-          ∙ ap (λ (s : Running). absorbed key s (bytes_in ws (drop (2 * w + 1) text))) (c.absorb.ensures.value ∙ ap (absorbed key running) told)
-          ∙ c.absorb.ensures.laws.pieces key running (unhex (take (2 * w) text)) (bytes_in ws (drop (2 * w + 1) text))
-          ∙ ap (λ (vs : List ℕ). absorbed key running (bytes_in vs text)) (sym is) ∙ before.hashed;
+      hashed = ap (λ (xs : List ℕ). absorbed c.absorb.new.self (bytes_in ws xs)) others
+          ∙ ap (λ (s : Running). absorbed s (bytes_in ws (drop (2 * w + 1) text))) (c.absorb.ensures.value ∙ ap (absorbed running) told)
+          ∙ c.absorb.ensures.laws.pieces running (unhex (take (2 * w) text)) (bytes_in ws (drop (2 * w + 1) text))
+          ∙ ap (λ (vs : List ℕ). absorbed running (bytes_in vs text)) (sym is) ∙ before.hashed;
       within = omega arith;
       narrow = narrow.1;
       line = search (rules, places);
@@ -52,9 +53,12 @@ loop-width-preserved c =
 
 pub returns : goal.returns
 returns c =
-    let ws = frames_of c.args.message_len in
     let text = c.args.text.now in
-    let last = c.loop-width.invariant.hashed in
-    c.finish.ensures.whole (bytes_in ws text) (told_bytes ws text)
-    (absorbed_none c.args.key c.loop-width.running
-    ∙ ap (λ (vs : List ℕ). absorbed c.args.key c.loop-width.running (bytes_in vs c.loop-width.rest.now)) (sym c.in-None.ensures.steps.0) ∙ last)
+    let all = bytes_in (frames_of c.args.message_len) text in
+    let running = c.loop-width.running in
+    let whole : running ≡ absorbed (started c.args.key) all =
+    absorbed_none running
+    ∙ ap (λ (vs : List ℕ). absorbed running (bytes_in vs c.loop-width.rest.now)) (sym c.in-None.ensures.steps.0) ∙ c.loop-width.invariant.hashed in
+    let keyed : running.key ≡ c.args.key = ap (λ (s : Running). s.key) whole ∙ laws.keyed (started c.args.key) all in
+    c.finish.ensures.whole all (told_bytes (frames_of c.args.message_len) text) (whole ∙ ap (λ k. absorbed (started k) all) (sym keyed))
+    ∙ ap (λ k. hash k all) keyed

@@ -9,8 +9,8 @@ use Rattle.sheetopener.proofs.body.hash_body.Given as goal
 abbrev pub invariant-loop-width : goal.invariant-loop-width
 invariant-loop-width l = record {
   finite : (goal.iterator-loop-width).is_finite l.width-iterator;
-  hashed : absorbed l.key l.running (bytes_in l.width-iterator l.rest)
-  ≡ absorbed l.key started (bytes_in (frames_of l.message_len) l.text);
+  hashed : absorbed l.running (bytes_in l.width-iterator l.rest)
+  ≡ absorbed (started l.key) (bytes_in (frames_of l.message_len) l.text);
   within : lines_size l.width-iterator ≤ length l.rest;
   narrow : Narrow l.width-iterator;
   line : length l.line ≡ 4096;
