@@ -5,7 +5,7 @@ ghost use Rattle.sheetlines.specs.Sheets.{header_of, cipher_of};
 ghost use Rattle.sheetopener.specs.Laws.{OpenLaws};
 ghost use Rattle.sheetopener.specs.Opens.{open_told, open_answer, filled};
 
-use crate::fault::OpenFault;
+use crate::fault::{Buffer, OpenFault};
 use crate::read::ReadSheet;
 use ciphers::cipher::Permutation;
 use sheetlines::fields::Fields;
@@ -33,10 +33,10 @@ pub fn open<C: Permutation>(
     let fields = read_sheet(text)?;
     let sheet = ReadSheet { text, fields };
     if header.len() < fields.header_len {
-        return Err(OpenFault::HeaderBuffer);
+        return Err(OpenFault::BufferTooSmall(Buffer::Header));
     }
     if message.len() < fields.message_len {
-        return Err(OpenFault::MessageBuffer);
+        return Err(OpenFault::BufferTooSmall(Buffer::Message));
     }
     sheet.confirm(cipher)?;
     sheet.give_header(header);
