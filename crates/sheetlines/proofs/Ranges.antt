@@ -1,19 +1,13 @@
 -- The ranges of the fields of line 1, one by one. Assumes nothing.
-use Rattle.std.proofs.Common.{◌≡◌, ◌^◌, ◌<◌, ◌≤◌, leb, None, ◌∙◌, arith}
+use Rattle.std.proofs.Common.{◌≡◌, ◌^◌, leb, None, ◌∙◌, arith}
 use Rattle.std.proofs.lemmas.Bool.{cond-true, and_from, le-leb, lt-ltb}
 use Rattle.std.proofs.lemmas.Bool.Decides.{nat_tests}
+use Rattle.method.proofs.Kept.{Kept}
 use Rattle.method.specs.Limits.{header_limit, message_limit, tag_fits, nonce_fits}
 use Rattle.sheetlines.specs.Sheets.{field_fault}
 use Rattle.sheetlines.specs.declared.fields.Fields.{Fields}
 
-pub record InRange (f : Fields) : Type 0 where
-  pub nonce : f.nonce < 2 ^ 63
-  pub message : f.message_len ≤ message_limit
-  pub header : f.header_len ≤ header_limit
-  pub least : 12 ≤ f.tag_len
-  pub most : f.tag_len ≤ 16
-
-pub in_range : (f : Fields) → field_fault f ≡ None → InRange f
+pub in_range : (f : Fields) → field_fault f ≡ None → Kept f.nonce f.header_len f.message_len f.tag_len
 in_range f h = record {
   nonce = grind (arith, nat_tests);
   message = grind (arith, nat_tests);
@@ -22,7 +16,7 @@ in_range f h = record {
   most = grind (arith, nat_tests);
 }
 
-pub no_fault : (f : Fields) → InRange f → field_fault f ≡ None
+pub no_fault : (f : Fields) → Kept f.nonce f.header_len f.message_len f.tag_len → field_fault f ≡ None
 no_fault f r =
     cond-true (nonce_fits f.nonce) _ _ (lt-ltb f.nonce (2 ^ 63) r.nonce)
     ∙ cond-true (leb f.message_len message_limit) _ _ (le-leb f.message_len message_limit r.message)

@@ -1,10 +1,10 @@
 -- Where the parts of a text stand that was read as a sheet. Assumes nothing.
-use Rattle.std.proofs.Common.{◌≡◌, ℕ, ◌+◌, ◌-◌, ◌*◌, ◌^◌, ◌<◌, ◌≤◌, List, ◌++◌, length, drop, Ok, sym, ap, ◌∙◌, arith}
+use Rattle.std.proofs.Common.{◌≡◌, ℕ, ◌+◌, ◌*◌, ◌^◌, ◌<◌, ◌≤◌, List, ◌++◌, length, drop, Ok, sym, ap, ◌∙◌, arith}
 use Rattle.method.specs.Limits.{header_limit, message_limit}
 use Rattle.sheetlines.proofs.Proved.{line_laws}
 use Rattle.sheetlines.proofs.Sizes.{length-lines}
-use Rattle.sheetlines.specs.Lines.{lines_size, bytes_in}
-use Rattle.sheetlines.specs.Sheets.{header_at, cipher_at, tag_at, frames_of, sheet_answer, header_of, cipher_of, tag_of}
+use Rattle.sheetlines.specs.Lines.{lines_size}
+use Rattle.sheetlines.specs.Sheets.{tag_at, frames_of, sheet_answer, header_of, cipher_of, tag_of}
 use Rattle.sheetlines.specs.declared.fields.Fields.{Fields}
 use Rattle.sheetopener.specs.Opens.{at_front}
 

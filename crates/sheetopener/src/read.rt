@@ -55,13 +55,7 @@ impl ReadSheet<'_> {
         let mut bytes = [0; TAG_MOST];
         let tag = &mut bytes[..self.fields.tag_len];
         decode(self.tag_digits(), tag);
-        confirm_tag(
-            cipher,
-            self.fields.nonce,
-            ciphertext_hash,
-            header_hash,
-            tag,
-        )
+        confirm_tag(cipher, self.fields.nonce, ciphertext_hash, header_hash, tag)
     }
 
     // Puts the header to the front of a buffer.

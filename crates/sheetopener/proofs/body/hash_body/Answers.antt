@@ -1,5 +1,5 @@
 -- A turn absorbs one line more.
-use Rattle.std.proofs.Common.{◌≡◌, ℕ, ◌+◌, ◌*◌, List, ◌++◌, length, take, drop, sym, ap, ◌∙◌, subst, arith, rules}
+use Rattle.std.proofs.Common.{◌≡◌, ℕ, ◌+◌, ◌*◌, List, length, take, drop, sym, ap, ◌∙◌, subst, arith, rules}
 use Rattle.std.proofs.lemmas.List.{places, length-drop, length-take-le}
 use Rattle.digits.specs.Hex.{unhex}
 use Rattle.polyhash.proofs.Runs.{laws}

@@ -10,7 +10,7 @@ abbrev pub invariant-loop-width : goal.invariant-loop-width
 invariant-loop-width l = record {
   finite : (goal.iterator-loop-width).is_finite l.width-iterator;
   hashed : absorbed l.running (bytes_in l.width-iterator l.rest)
-  ≡ absorbed (started l.key) (bytes_in (frames_of l.message_len) l.text);
+      ≡ absorbed (started l.key) (bytes_in (frames_of l.message_len) l.text);
   within : lines_size l.width-iterator ≤ length l.rest;
   narrow : Narrow l.width-iterator;
   line : length l.line ≡ 4096;

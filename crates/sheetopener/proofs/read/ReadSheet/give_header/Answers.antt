@@ -1,5 +1,5 @@
 -- The front of the buffer is just filled with the bytes that the header's digits are.
-use Rattle.std.proofs.Common.{◌≡◌, take, drop, arith}
+use Rattle.std.proofs.Common.{take, drop, arith}
 use Rattle.std.proofs.lemmas.List.{length-drop, length-take-le}
 use Rattle.sheetlines.specs.Sheets.{header_at, header_of}
 use Rattle.sheetopener.proofs.Bodies.{line_decoded}

@@ -1,5 +1,5 @@
 -- The ciphertext is taken and deciphered in place.
-use Rattle.std.proofs.Common.{◌≡◌, ℕ, List, length, take, sym, ap, ◌∙◌, arith}
+use Rattle.std.proofs.Common.{◌≡◌, length, sym, ap, ◌∙◌, arith}
 use Rattle.std.proofs.lemmas.List.{length-drop, length-take-le}
 use Rattle.keystream.specs.Counters.{ciphered}
 use Rattle.method.proofs.Closed.{crypt_is}
