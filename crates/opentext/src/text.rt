@@ -42,26 +42,18 @@ pub(crate) fn sheet_lines(
     Ok(out)
 }
 
-fn bytes_of(heap: Global, text: &str) -> Result<Vec<u8>, AllocError>
-    ensures { IfOk result (λ v. v.items ≡ text.now) }
-{
-    Vec::from_slice(heap, text.as_bytes())
-}
-
 // The line that tells the number of a bad line.
 pub(crate) fn bad_line(heap: Global, line: u8) -> Result<Vec<u8>, AllocError>
     ensures { IfOk result (λ v. v.items ≡ told_line (codes "bad line ") line []) }
 {
-    let text = format!(in heap; "bad line {line}\n")?;
-    bytes_of(heap, &text)
+    Ok(format!(in heap; "bad line {line}\n")?.into_bytes())
 }
 
 // The line that tells a refusal: its number, and what else it tells.
 fn refused_with(heap: Global, number: u8, values: &str) -> Result<Vec<u8>, AllocError>
     ensures { IfOk result (λ v. v.items ≡ told_line (codes "refused ") number values.now) }
 {
-    let text = format!(in heap; "refused {number}{values}\n")?;
-    bytes_of(heap, &text)
+    Ok(format!(in heap; "refused {number}{values}\n")?.into_bytes())
 }
 
 fn refused_in_line(heap: Global, fault: LineFault) -> Result<Vec<u8>, AllocError>
