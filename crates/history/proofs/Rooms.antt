@@ -1,4 +1,4 @@
--- Buffers for the calls: one more, and one taken. Assumes nothing.
+-- Buffers for the calls: one more. Assumes nothing.
 use Rattle.std.proofs.Common.{◌≡◌, ℕ, ◌+◌, ◌<◌, ◌≤◌, ◌≢◌, List, [], ◌∷◌, ◌++◌, length, get_or, set, None, Option, Vec, sym, ap, ◌∙◌, subst, ⊎_elim, arith, get_or-set_other}
 use Rattle.std.proofs.lemmas.List.{get_or_append_left, get_or_push, get_or_default}
 use Rattle.std.proofs.lemmas.Bool.{cases_lt}
@@ -9,10 +9,6 @@ use Rattle.history.specs.declared.Call.{Call}
 
 abbrev Buffers : Type 0
 Buffers = List (Option (Vec ℕ Global))
-
--- each of the calls from a up to b has its buffer
-abbrev pub Rooms : List Call → Buffers → ℕ → ℕ → Type 0
-Rooms cs vs a b = (i : ℕ) (d : Call) → a ≤ i → i < b → RoomFor (asked (get_or cs i d)) (get_or vs i None)
 
 pub rooms_more : (cs : List Call) (vs ws : Buffers) (n : ℕ) (x : Option (Vec ℕ Global)) (e : Call) → length vs ≡ n → n < length cs → ws ≡ vs ++ x ∷ []
     → RoomFor (asked (get_or cs n e)) x → ((i : ℕ) (d : Call) → i < n → RoomFor (asked (get_or cs i d)) (get_or vs i None))
@@ -28,9 +24,3 @@ rooms_more cs vs ws n x e len k ew here before i d h =
     let same : get_or cs n e ≡ get_or cs i d = ap (λ j. get_or cs j e) (sym is) ∙ get_or_default cs i e d (omega arith) in
     subst (RoomFor (asked (get_or cs i d))) (sym at) (subst (λ c. RoomFor (asked c) x) same here))
     (cases_lt i n)
-
--- what is taken from place n leaves the places behind it
-pub rooms_taken : (cs : List Call) (vs : Buffers) (n b : ℕ) (x : Option (Vec ℕ Global)) → Rooms cs vs n b → Rooms cs (set vs n x) (n + 1) b
-rooms_taken cs vs n b x r i d l h =
-    let ne : i ≢ n = omega arith in
-    subst (RoomFor (asked (get_or cs i d))) (sym (get_or-set_other vs n i x None ne)) (r i d (omega arith) h)

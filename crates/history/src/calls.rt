@@ -170,12 +170,11 @@ pub fn replay<C: Permutation + Drop, S: MarkStore + Drop>(
 ) -> Result<Vec<Option<Reply>>, AllocError>
     ensures { IfOk result (λ v. Histories (C.image cipher) (S.meaning store) (map asked calls.now) (map said v.items)) }
 {
-    let mut outs = buffers(heap, calls)?;
+    let outs = buffers(heap, calls)?;
     let mut drafts = Vec::with_capacity(heap, calls.len())?;
     let mut replies = Vec::with_capacity(heap, calls.len())?;
     let mut sealer = Sealer::new(cipher, store);
-    for (i, call) in calls.iter().enumerate() {
-        let out = outs[i].take();
+    for (call, out) in calls.iter().zip(outs) {
         replies.push_reserved(answer(&mut sealer, &mut drafts, call, out));
     }
     Ok(replies)
