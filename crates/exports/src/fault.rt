@@ -15,6 +15,7 @@ pub(crate) enum CallFault {
     Key(KeyFault),
 }
 
+// by hand, since a derived `From` has no contract, and clauses name the fault
 impl From<KeyFault> for CallFault {
     ghost from_gives = { λ e r. r ≡ Key e };
 

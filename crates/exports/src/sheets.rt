@@ -92,11 +92,13 @@ pub extern "C" fn navreluk_seal_at(
                 leftover: UNWRITTEN,
             };
             let mut sealer = Sealer::new(chosen, Register::new(mark, supply));
-            let sealed = sealer.seal(tag_len, header, message, out);
-            if let Ok(sealed) = &sealed {
-                tag.copy_from_slice(&sealed.tag);
+            match sealer.seal(tag_len, header, message, out) {
+                Ok(sealed) => {
+                    tag.copy_from_slice(&sealed.tag);
+                    0
+                }
+                Err(fault) => fault.number(),
             }
-            status(sealed)
         }
         Err(fault) => fault.number(),
     }

@@ -209,17 +209,17 @@ fn show_reply(rt: &HostRuntime, reply: &Option<Reply>) -> io::Result<()> {
 
 // What was fed to a draft and what it wrote, both joined.
 #[derive(Drop)]
-struct Joined {
+struct Pieces {
     header: Vec<u8>,
     ciphertext: Vec<u8>,
 }
 
-fn joined(
+fn pieces_of(
     heap: Global,
     calls: &[Call<'_>],
     replies: &[Option<Reply>],
     wanted: usize,
-) -> Result<Joined, AllocError> {
+) -> Result<Pieces, AllocError> {
     let mut header = Vec::new(heap);
     let mut ciphertext = Vec::new(heap);
     for (call, reply) in calls.iter().zip(replies) {
@@ -233,7 +233,7 @@ fn joined(
             _ => {}
         }
     }
-    Ok(Joined { header, ciphertext })
+    Ok(Pieces { header, ciphertext })
 }
 
 // Reads so many bytes from an offset on, and prints them as text.
@@ -318,7 +318,7 @@ fn play<C: BlockCipher + Drop, S: MarkStore + Drop>(
     let cipher = keyed::<C>()?;
     for (call, reply) in calls.iter().zip(&replies) {
         if let (Call::Finish { draft }, Some(Reply::Finished(sealed))) = (call, reply) {
-            let Joined { header, ciphertext } = joined(heap, &calls, &replies, *draft)?;
+            let Pieces { header, ciphertext } = pieces_of(heap, &calls, &replies, *draft)?;
             let sheet = Sheet {
                 nonce: sealed.nonce,
                 header: &header,

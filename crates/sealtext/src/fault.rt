@@ -14,6 +14,7 @@ pub(crate) enum InputFault {
     Head(HeadFault),
 }
 
+// these by hand, since a derived `From` has no contract, and clauses name the fault
 impl From<KeyFault> for InputFault {
     ghost from_gives = { λ e r. r ≡ Key e };
 

@@ -11,8 +11,8 @@ ghost use Rattle.sealtext.specs.Inputs.{longest_message, lines_told};
 ghost use Rattle.sealtext.specs.Seals.{fault_told, tag_bytes, sheet_lines, header_answer, seal_input, counted};
 ghost use Rattle.sealtext.specs.Texts.{on_front, answer_front};
 
-use crate::fault::InputFault;
 use crate::OUTPUT_BYTES;
+use crate::fault::InputFault;
 use crate::lines::{LONGEST_MESSAGE, Lines};
 use chm::draft::{Draft, Sealed};
 use chm::fault::HeadFault;
