@@ -1,4 +1,5 @@
 ghost use Rattle.std.specs.Prelude.{◌≡◌, ℕ, ◌+◌, ◌<◌, ◌≤◌, ◌++◌, map, length, IfOk, Some, None, vec_len, vec_capacity, slice_index_or, slice_set};
+ghost use Rattle.std.specs.List.{AllZip};
 ghost use Rattle.blocks.specs.Blocks.{AllBytes};
 ghost use Rattle.chm.specs.Drafts.{bodied};
 ghost use Rattle.chm.specs.Sealers.{sealer_standing, begin_answer, begun};
@@ -150,7 +151,7 @@ fn buffer_for(heap: Global, call: &Call<'_>) -> Result<Option<Vec<u8>>, AllocErr
 
 // A buffer for each call, all taken before the first call is given.
 fn buffers(heap: Global, calls: &[Call<'_>]) -> Result<Vec<Option<Vec<u8>>>, AllocError>
-    ensures { IfOk result (λ v. (vec_len v ≡ length calls.now) × ((i : ℕ) (d : Call) → i < length calls.now → RoomFor (asked (slice_index_or calls.now i d)) (slice_index_or v.items i None))) }
+    ensures { IfOk result (λ v. AllZip (λ c o. RoomFor (asked c) o) calls.now v.items) }
 {
     let mut all = Vec::with_capacity(heap, calls.len())?;
     for call in calls {

@@ -1,5 +1,5 @@
 -- Each arm is the answer of one call.
-use Rattle.std.proofs.Common.{◌≡◌, ℕ, List, length, get_or, set, Some, None, vec_items, vec_len, Option, Vec, sym, refl, ap, ◌∙◌, subst, arith}
+use Rattle.std.proofs.Common.{◌≡◌, ℕ, List, length, get_or, set, Some, None, vec_items, vec_len, Option, Vec, sym, ap, ◌∙◌, subst, arith}
 use Rattle.std.proofs.lemmas.List.{length-append, length-set, with_items_is}
 use Rattle.std.specs.Vec.{with_items}
 use Rattle.std.specs.declared.alloc.Global.{Global}

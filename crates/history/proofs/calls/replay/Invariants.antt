@@ -1,7 +1,6 @@
 -- The calls so far are a run that sealer and drafts hold; the calls to come have their buffers, and there is space for all.
 use Rattle.std.proofs.Common.{◌≡◌, ◌≤◌, map, length, take, vec_items, vec_len, vec_capacity}
 use Rattle.chm.specs.Sealers.{sealer_standing}
-use Rattle.history.proofs.Rooms.{Rooms}
 use Rattle.history.specs.Held.{Reached}
 use Rattle.history.specs.Runs.{asked, said}
 use Rattle.history.proofs.calls.replay.Given as goal
