@@ -35,9 +35,12 @@ fn begin_one<C: Permutation, S: MarkStore>(
     Ok(n)
 }
 
+// A piece in memory is bytes, so a draft that is fed one was fed bytes.
+#[tactic(auto, using(std::proofs::lemmas::List::get_or_past, std::proofs::lemmas::List::set_past, blocks::proofs::Numbers::all_bytes))]
 fn head_one(drafts: &mut [Option<Draft>], n: usize, piece: &[u8]) -> Option<Reply>
     ensures answer { said result ≡ head_said (slice_index_or drafts.old n None) piece.now }
     ensures items { drafts.new ≡ slice_set drafts.old n (head_slot (slice_index_or drafts.old n None) piece.now) }
+    ensures bytes { AllBytes piece.now }
 {
     if n >= drafts.len() {
         return None;
@@ -60,6 +63,7 @@ fn written<C: Permutation>(
     Ok(out)
 }
 
+#[tactic(auto, using(std::proofs::lemmas::List::get_or_past, std::proofs::lemmas::List::set_past, blocks::proofs::Numbers::all_bytes))]
 fn body_one<C: Permutation>(
     drafts: &mut [Option<Draft>],
     n: usize,
@@ -69,6 +73,7 @@ fn body_one<C: Permutation>(
 ) -> Option<Reply>
     ensures answer { said result ≡ body_said (C.image cipher.now) (slice_index_or drafts.old n None) piece.now (vec_len out) }
     ensures items { drafts.new ≡ slice_set drafts.old n (body_slot (C.image cipher.now) (slice_index_or drafts.old n None) piece.now (vec_len out)) }
+    ensures bytes { AllBytes piece.now }
 {
     if n >= drafts.len() {
         return None;
@@ -77,6 +82,7 @@ fn body_one<C: Permutation>(
     Some(Reply::Wrote(written(draft, cipher, piece, out)))
 }
 
+#[tactic(auto, using(std::proofs::lemmas::List::get_or_past, std::proofs::lemmas::List::set_past))]
 fn finish_one(drafts: &mut [Option<Draft>], n: usize) -> Option<Reply>
     ensures answer { said result ≡ finish_said (slice_index_or drafts.old n None) }
     ensures items { drafts.new ≡ slice_set drafts.old n None }
@@ -86,17 +92,6 @@ fn finish_one(drafts: &mut [Option<Draft>], n: usize) -> Option<Reply>
     }
     let draft = drafts[n].take()?;
     Some(Reply::Finished(draft.finish()))
-}
-
-fn length_of(piece: &[u8]) -> usize {
-    piece.len()
-}
-
-// The length of a piece; the contract says that a piece in memory is bytes.
-fn bytes_in(piece: &[u8]) -> usize
-    ensures { AllBytes piece.now }
-{
-    length_of(piece)
 }
 
 // Gives one call, with the buffer that a body wants, and answers as every sound history that sealer and drafts hold is answered.
@@ -116,21 +111,11 @@ fn answer<C: Permutation, S: MarkStore>(
 {
     match call {
         Call::Begin { tag_len } => Some(Reply::Begun(begin_one(sealer, drafts, *tag_len))),
-        Call::Head { draft, piece } => {
-            let _ = bytes_in(piece);
-            head_one(drafts, *draft, piece)
-        }
-        Call::Body {
-            draft,
-            piece,
-            room: _,
-        } => {
-            let _ = bytes_in(piece);
-            match out {
-                Some(out) => body_one(drafts, *draft, sealer.cipher(), piece, out),
-                None => unreachable(),
-            }
-        }
+        Call::Head { draft, piece } => head_one(drafts, *draft, piece),
+        Call::Body { draft, piece, .. } => match out {
+            Some(out) => body_one(drafts, *draft, sealer.cipher(), piece, out),
+            None => unreachable(),
+        },
         Call::Finish { draft } => finish_one(drafts, *draft),
         Call::Restart(supply) => {
             sealer.restart(*supply);

@@ -14,7 +14,7 @@ loop-call-preserved c =
       omega arith,
       omega arith,
       rw (c.push_reserved.ensures.items, take_more calls n (Begin 0) c.loop-call-test.true)
-      (all_zipped_more (λ k o. RoomFor (asked k) o) (take n calls) (vec_items c.loop-call.all) _ _ c.loop-call.invariant.2 c.in_ok-buffer_for.ensures),
+          (all_zipped_more (λ k o. RoomFor (asked k) o) (take n calls) (vec_items c.loop-call.all) _ _ c.loop-call.invariant.2 c.in_ok-buffer_for.ensures),
     )
 
 pub returns : goal.returns
