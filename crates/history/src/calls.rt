@@ -1,4 +1,5 @@
 ghost use Rattle.std.specs.Prelude.{◌≡◌, ℕ, ◌+◌, ◌<◌, ◌≤◌, ◌++◌, map, length, IfOk, Some, None, vec_len, vec_capacity, slice_index_or, slice_set};
+ghost use Rattle.std.specs.List.{AllZip};
 ghost use Rattle.blocks.specs.Blocks.{AllBytes};
 ghost use Rattle.chm.specs.Drafts.{bodied};
 ghost use Rattle.chm.specs.Sealers.{sealer_standing, begin_answer, begun};
@@ -34,9 +35,12 @@ fn begin_one<C: Permutation, S: MarkStore>(
     Ok(n)
 }
 
+// A piece in memory is bytes, so a draft that is fed one was fed bytes.
+#[tactic(auto, using(std::proofs::lemmas::List::get_or_past, std::proofs::lemmas::List::set_past, blocks::proofs::Numbers::all_bytes))]
 fn head_one(drafts: &mut [Option<Draft>], n: usize, piece: &[u8]) -> Option<Reply>
     ensures answer { said result ≡ head_said (slice_index_or drafts.old n None) piece.now }
     ensures items { drafts.new ≡ slice_set drafts.old n (head_slot (slice_index_or drafts.old n None) piece.now) }
+    ensures bytes { AllBytes piece.now }
 {
     if n >= drafts.len() {
         return None;
@@ -59,6 +63,7 @@ fn written<C: Permutation>(
     Ok(out)
 }
 
+#[tactic(auto, using(std::proofs::lemmas::List::get_or_past, std::proofs::lemmas::List::set_past, blocks::proofs::Numbers::all_bytes))]
 fn body_one<C: Permutation>(
     drafts: &mut [Option<Draft>],
     n: usize,
@@ -68,6 +73,7 @@ fn body_one<C: Permutation>(
 ) -> Option<Reply>
     ensures answer { said result ≡ body_said (C.image cipher.now) (slice_index_or drafts.old n None) piece.now (vec_len out) }
     ensures items { drafts.new ≡ slice_set drafts.old n (body_slot (C.image cipher.now) (slice_index_or drafts.old n None) piece.now (vec_len out)) }
+    ensures bytes { AllBytes piece.now }
 {
     if n >= drafts.len() {
         return None;
@@ -76,6 +82,7 @@ fn body_one<C: Permutation>(
     Some(Reply::Wrote(written(draft, cipher, piece, out)))
 }
 
+#[tactic(auto, using(std::proofs::lemmas::List::get_or_past, std::proofs::lemmas::List::set_past))]
 fn finish_one(drafts: &mut [Option<Draft>], n: usize) -> Option<Reply>
     ensures answer { said result ≡ finish_said (slice_index_or drafts.old n None) }
     ensures items { drafts.new ≡ slice_set drafts.old n None }
@@ -85,17 +92,6 @@ fn finish_one(drafts: &mut [Option<Draft>], n: usize) -> Option<Reply>
     }
     let draft = drafts[n].take()?;
     Some(Reply::Finished(draft.finish()))
-}
-
-fn length_of(piece: &[u8]) -> usize {
-    piece.len()
-}
-
-// The length of a piece; the contract says that a piece in memory is bytes.
-fn bytes_in(piece: &[u8]) -> usize
-    ensures { AllBytes piece.now }
-{
-    length_of(piece)
 }
 
 // Gives one call, with the buffer that a body wants, and answers as every sound history that sealer and drafts hold is answered.
@@ -115,21 +111,11 @@ fn answer<C: Permutation, S: MarkStore>(
 {
     match call {
         Call::Begin { tag_len } => Some(Reply::Begun(begin_one(sealer, drafts, *tag_len))),
-        Call::Head { draft, piece } => {
-            let _ = bytes_in(piece);
-            head_one(drafts, *draft, piece)
-        }
-        Call::Body {
-            draft,
-            piece,
-            room: _,
-        } => {
-            let _ = bytes_in(piece);
-            match out {
-                Some(out) => body_one(drafts, *draft, sealer.cipher(), piece, out),
-                None => unreachable(),
-            }
-        }
+        Call::Head { draft, piece } => head_one(drafts, *draft, piece),
+        Call::Body { draft, piece, .. } => match out {
+            Some(out) => body_one(drafts, *draft, sealer.cipher(), piece, out),
+            None => unreachable(),
+        },
         Call::Finish { draft } => finish_one(drafts, *draft),
         Call::Restart(supply) => {
             sealer.restart(*supply);
@@ -150,7 +136,7 @@ fn buffer_for(heap: Global, call: &Call<'_>) -> Result<Option<Vec<u8>>, AllocErr
 
 // A buffer for each call, all taken before the first call is given.
 fn buffers(heap: Global, calls: &[Call<'_>]) -> Result<Vec<Option<Vec<u8>>>, AllocError>
-    ensures { IfOk result (λ v. (vec_len v ≡ length calls.now) × ((i : ℕ) (d : Call) → i < length calls.now → RoomFor (asked (slice_index_or calls.now i d)) (slice_index_or v.items i None))) }
+    ensures { IfOk result (λ v. AllZip (λ c o. RoomFor (asked c) o) calls.now v.items) }
 {
     let mut all = Vec::with_capacity(heap, calls.len())?;
     for call in calls {
@@ -170,12 +156,11 @@ pub fn replay<C: Permutation + Drop, S: MarkStore + Drop>(
 ) -> Result<Vec<Option<Reply>>, AllocError>
     ensures { IfOk result (λ v. Histories (C.image cipher) (S.meaning store) (map asked calls.now) (map said v.items)) }
 {
-    let mut outs = buffers(heap, calls)?;
+    let outs = buffers(heap, calls)?;
     let mut drafts = Vec::with_capacity(heap, calls.len())?;
     let mut replies = Vec::with_capacity(heap, calls.len())?;
     let mut sealer = Sealer::new(cipher, store);
-    for (i, call) in calls.iter().enumerate() {
-        let out = outs[i].take();
+    for (call, out) in calls.iter().zip(outs) {
         replies.push_reserved(answer(&mut sealer, &mut drafts, call, out));
     }
     Ok(replies)

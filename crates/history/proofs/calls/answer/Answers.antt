@@ -1,5 +1,5 @@
 -- Each arm is the answer of one call.
-use Rattle.std.proofs.Common.{◌≡◌, ℕ, List, length, get_or, set, Some, None, vec_items, vec_len, Option, Vec, sym, refl, ap, ◌∙◌, subst, arith}
+use Rattle.std.proofs.Common.{◌≡◌, ℕ, List, length, get_or, set, Some, None, vec_items, vec_len, Option, Vec, sym, ap, ◌∙◌, subst, arith}
 use Rattle.std.proofs.lemmas.List.{length-append, length-set, with_items_is}
 use Rattle.std.specs.Vec.{with_items}
 use Rattle.std.specs.declared.alloc.Global.{Global}
@@ -16,19 +16,17 @@ given_back : (v : Vec (Option Draft) Global) (ds l : List (Option Draft)) (n : �
 given_back v ds l n x e lent =
     with_items_is v ds (omega (arith, v.ok.0, simp length-set at (ap length e), ap length lent)) ∙ e
 
-pub returns-in-Begin : goal.returns-in-Begin
-returns-in-Begin g c =
+pub returns-in-Begin-clause-answered : goal.returns-in-Begin-clause-answered
+returns-in-Begin-clause-answered g c =
     let E = g.C.Permutation.image c.args.sealer.now.cipher in
-    let k = c.begin_one.ensures in
     let s = sealer_standing g.S.MarkStore.meaning c.args.sealer.now in
-    let b = begin_answer E s c.in-Begin.tag_len in
-    let ds = vec_items c.args.drafts.now in
-    record {
-      answered = begin-answered E s _ ds _ _ c.in-Begin.tag_len _ _ (ap asked c.in-Begin.is) c.args.drafts.now.ok.0 k.answer k.stands k.items;
-      cipher = k.cipher;
-      longer = omega (arith, c.args.drafts.now.ok.0, c.begin_one.new.drafts.ok.0, ap length k.items, length-append ds (new_slot b), new_slot_le b);
-      capacity = k.capacity;
-    }
+    let k = c.begin_one.ensures in
+    begin-answered E s _ (vec_items c.args.drafts.now) _ _ c.in-Begin.tag_len _ _ (ap asked c.in-Begin.is) c.args.drafts.now.ok.0 k.answer k.stands k.items
+
+pub returns-in-Begin-clause-longer : goal.returns-in-Begin-clause-longer
+returns-in-Begin-clause-longer g c =
+    let b = begin_answer (g.C.Permutation.image c.args.sealer.now.cipher) (sealer_standing g.S.MarkStore.meaning c.args.sealer.now) c.in-Begin.tag_len in
+    omega (arith, c.args.drafts.now.ok.0, c.begin_one.new.drafts.ok.0, ap length c.begin_one.ensures.items, length-append (vec_items c.args.drafts.now) (new_slot b), new_slot_le b)
 
 pub returns-in-Head-clause-answered : goal.returns-in-Head-clause-answered
 returns-in-Head-clause-answered g c =
@@ -37,7 +35,7 @@ returns-in-Head-clause-answered g c =
     let P = c.in-Head.piece.now in
     let k = c.head_one.ensures in
     let lent = c.deref_mut.ensures.value in
-    head-answered E _ _ _ n P _ _ c.bytes_in.ensures (ap asked c.in-Head.is)
+    head-answered E _ _ _ n P _ _ k.bytes (ap asked c.in-Head.is)
     (k.answer ∙ ap (λ l. head_said (get_or l n None) P) lent)
     (given_back c.args.drafts.now c.head_one.new.drafts _ n _ k.items lent ∙ ap (λ l. set l n (head_slot (get_or l n None) P)) lent)
 
@@ -55,7 +53,7 @@ returns-in-Some-clause-answered g c =
     let room = room_is n P _ c.args.out c.in-Some.out (subst (λ a. RoomFor a c.args.out) is c.requires.room) c.in-Some.is in
     let same = ap g.C.Permutation.image c.cipher.ensures in
     let lent = c.deref_mut-in-Some.ensures.value in
-    body-answered E _ _ _ n P c.in-Body.room _ _ c.bytes_in-in-Body.ensures is
+    body-answered E _ _ _ n P c.in-Body.room _ _ k.bytes is
     (k.answer ∙ (λ i. body_said (same i) (get_or (lent i) n None) P (room i)))
     (given_back c.args.drafts.now c.body_one.new.drafts _ n _ k.items lent ∙ (λ i. set (lent i) n (body_slot (same i) (get_or (lent i) n None) P (room i))))
 
