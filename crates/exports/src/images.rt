@@ -22,6 +22,13 @@ fn cipher_of(number: u8) -> Option<Name>
     }
 }
 
+// The block of two halves, the higher first.
+pub(crate) fn block_of(high: u64, low: u64) -> u128
+    ensures { result ≡ high * 2 ^ 64 + low }
+{
+    u128::from(high) * (1 << 64) + u128::from(low)
+}
+
 // The cipher of a number, under a key.
 pub(crate) fn cipher_under(number: u8, key: &[u8]) -> Result<Chosen, CallFault>
     ensures { answered call_told (meant chosen_image result) ≡ call_answer (cipher_of number) key.now }
@@ -43,8 +50,7 @@ pub extern "C" fn navreluk_image(cipher: u8, key: &[u8], high: u64, low: u64, ou
     }
     match cipher_under(cipher, key) {
         Ok(chosen) => {
-            let block = u128::from(high) * 18446744073709551616 + u128::from(low);
-            let image = blocks::to_bytes(chosen.image_of(block));
+            let image = blocks::to_bytes(chosen.image_of(block_of(high, low)));
             out.copy_from_slice(&image);
             0
         }

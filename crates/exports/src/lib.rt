@@ -9,6 +9,7 @@ ghost use Rattle.polyhash.specs.Hash.{hash};
 
 use aes::Aes128;
 use ciphers::generic::under_key;
+use images::block_of;
 use keystream::Keystream;
 use polyhash::running::calls::hash_of;
 use refusals::Refusal;
@@ -27,7 +28,7 @@ pub extern "C" fn navreluk_hash(key_high: u64, key_low: u64, bytes: &[u8], out: 
     if out.len() != blocks::BLOCK_BYTES {
         return;
     }
-    let key = u128::from(key_high) * 18446744073709551616 + u128::from(key_low);
+    let key = block_of(key_high, key_low);
     let hash = blocks::to_bytes(hash_of(key, bytes));
     out.copy_from_slice(&hash);
 }
