@@ -6,7 +6,7 @@ copy=$(mktemp -d)
 trap 'rm -rf "$copy"' EXIT
 tar -c --exclude=out crates.txt crates | tar -x -C "$copy"
 mkdir -p "$copy/crates/client/src"
-echo 'client: ciphers chm checks' >> "$copy/crates.txt"
+echo 'client: ciphers method chm checks' >> "$copy/crates.txt"
 
 # judge NAME WANTED: checks the client that standard input has, and compares the answer, which is 'proved', or on which lines the compiler refuses the
 # client and by which errors, one a line, each once

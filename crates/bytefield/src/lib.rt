@@ -36,7 +36,8 @@ pub fn substitute(a: u8) -> u8
 }
 
 // x times a byte. The highest bit chooses what is added by a product and not by a branch, so that the time that it
-// takes tells nothing about the byte.
+// takes tells nothing about the byte. Blocks have the same step in `polynomials`: one function for both would need a trait of
+// shifts and sums for `u8` and `u128`, and is longer than the two.
 pub fn times_x(a: u8) -> u8
     ensures { result ≡ times_x a }
 {

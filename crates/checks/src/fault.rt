@@ -21,6 +21,7 @@ pub enum ReadFault {
     PastEnd = 6,
 }
 
+// by hand, since a derived `From` has no contract, and clauses name the fault
 impl From<LimitFault> for CheckFault {
     ghost from_gives = { λ e r. r ≡ Limit e };
 

@@ -1,5 +1,5 @@
 -- The words that a draft holds, over pieces and within a block. Assumes nothing.
-use Rattle.std.proofs.Common.{◌≡◌, ℕ, zero, suc, ◌+◌, ◌-◌, ◌%◌, ◌<◌, ◌≤◌, Bool, true, false, cond, eqb, get_or, sym, refl, ap, ◌∙◌, add-one, arith}
+use Rattle.std.proofs.Common.{◌≡◌, ℕ, zero, suc, ◌+◌, ◌%◌, ◌<◌, ◌≤◌, Bool, true, false, cond, eqb, get_or, sym, refl, ap, ◌∙◌, arith}
 use Rattle.std.proofs.lemmas.Bool.{ne_eqb}
 use Rattle.blocks.specs.Blocks.{bytes_of}
 use Rattle.chm.specs.Words.{key_words, more, turned, steps, step_byte}
@@ -17,10 +17,6 @@ module _ (E : ℕ → ℕ) (N : ℕ) where
   pub turned_same : (w : KeyWords) → (w.len % 16 ≡ 0 → ⊥) → turned E N w ≡ w
   unfolding turned
   turned_same w h = rw (ne_eqb (w.len % 16) 0 h) refl
-
-  pub steps-more : (w : KeyWords) (k : ℕ) → steps E N w (k + 1) ≡ more 1 (turned E N (steps E N w k))
-  unfolding steps
-  steps-more w k = ap (steps E N w) (add-one k)
 
   pub steps_len : (w : KeyWords) (k : ℕ) → (steps E N w k).len ≡ w.len + k
   unfolding steps

@@ -3,7 +3,7 @@ use Rattle.std.proofs.Common.{◌≡◌, ℕ, ◌+◌, ◌≤◌, Bool, true, fa
 use Rattle.std.proofs.lemmas.Bool.{eqb-true}
 use Rattle.keystream.specs.Counters.{ciphered}
 use Rattle.method.specs.Limits.{header_limit, message_limit, tag_fits, header_too_long, message_too_long, lengths_differ, bad_tag_length}
-use Rattle.refusals.specs.Answers.{Told, Answer}
+use Rattle.refusals.specs.Answers.{Answer}
 use Rattle.chm.proofs.Helds.{held_len, sent-held}
 use Rattle.chm.proofs.Pieces.{draft_laws}
 use Rattle.chm.specs.Drafts.{words_of, headed, bodied, body_out, body_answer, sealed, if_accepted}
@@ -28,10 +28,10 @@ sized_by t h m room true true true true ea eb ec ed e = record {
   outs = eqb-true room m ec;
   bodies = leb-true m message_limit ed;
 }
-sized_by t h m room true true true false ea eb ec ed e = absurd (let z : ◌≡◌ {A = ℕ} 0 1 = cc in omega arith)
-sized_by t h m room true true false d ea eb ec ed e = absurd (let z : ◌≡◌ {A = ℕ} 0 1 = cc in omega arith)
-sized_by t h m room true false c d ea eb ec ed e = absurd (let z : ◌≡◌ {A = ℕ} 0 1 = cc in omega arith)
-sized_by t h m room false b c d ea eb ec ed e = absurd (let z : ◌≡◌ {A = ℕ} 0 1 = cc in omega arith)
+sized_by t h m room true true true false ea eb ec ed e = absurd cc
+sized_by t h m room true true false d ea eb ec ed e = absurd cc
+sized_by t h m room true false c d ea eb ec ed e = absurd cc
+sized_by t h m room false b c d ea eb ec ed e = absurd cc
 
 pub sized : (t h m room : ℕ) → ◌≡◌ {A = Answer (Unit {0})} (Ok tt) (sizes_answer t h m room) → Sized t h m room
 sized t h m room e = sized_by t h m room (tag_fits t) (leb h header_limit) (eqb room m) (leb m message_limit) refl refl refl refl e
@@ -44,24 +44,12 @@ seal-live : (E : ℕ → ℕ) (s : Standing) (t : ℕ) (h m : List ℕ) (room : 
     → seal_answer E s t h m room ≡ cond s.live (sealed_under E t h m (issue_answer s)) (Err sealer_down)
 seal-live E s t h m room e = ap (λ a. if_sized a (cond s.live (sealed_under E t h m (issue_answer s)) (Err sealer_down))) (sym e)
 
--- what begin refuses, the seal refuses
-refused_by : (E : ℕ → ℕ) (t : ℕ) (h m : List ℕ) (live : Bool) (i : Answer ℕ) (e : Told) → ◌≡◌ {A = Answer Draft} (Err e) (cond live (drafted E t i) (Err sealer_down))
-    → ◌≡◌ {A = Answer Sealed} (Err e) (cond live (sealed_under E t h m i) (Err sealer_down))
-refused_by E t h m true (Ok N) e q = absurd (let z : ◌≡◌ {A = ℕ} 0 1 = cc in omega arith)
-refused_by E t h m true (Err f) e q = cc
-refused_by E t h m false i e q = cc
-
-pub seal-refused : (E : ℕ → ℕ) (s : Standing) (t : ℕ) (h m : List ℕ) (room : ℕ) (e : Told) → ◌≡◌ {A = Answer (Unit {0})} (Ok tt) (sizes_answer t (length h) (length m) room)
-    → ◌≡◌ {A = Answer Draft} (Err e) (begin_answer E s t) → ◌≡◌ {A = Answer Sealed} (Err e) (seal_answer E s t h m room)
-seal-refused E s t h m room e z q =
-    refused_by E t h m s.live (issue_answer s) e (q ∙ begin-live E s t (sized t (length h) (length m) room z).tags) ∙ sym (seal-live E s t h m room z)
-
 -- a draft that begin hands out is that of a nonce
 drafted_by : (E : ℕ → ℕ) (t : ℕ) (h m : List ℕ) (live : Bool) (i : Answer ℕ) (d : Draft) → ◌≡◌ {A = Answer Draft} (Ok d) (cond live (drafted E t i) (Err sealer_down))
     → (N : ℕ) × (d ≡ words_of E N t [] []) × (cond live (sealed_under E t h m i) (Err sealer_down) ≡ Ok (sealed (words_of E N t h m)))
 drafted_by E t h m true (Ok N) d q = (N, cc, refl)
-drafted_by E t h m true (Err f) d q = absurd (let z : ◌≡◌ {A = ℕ} 0 1 = cc in omega arith)
-drafted_by E t h m false i d q = absurd (let z : ◌≡◌ {A = ℕ} 0 1 = cc in omega arith)
+drafted_by E t h m true (Err f) d q = absurd cc
+drafted_by E t h m false i d q = absurd cc
 
 pub record Done (E : ℕ → ℕ) (s : Standing) (t : ℕ) (h m out : List ℕ) (d : Draft) (ws : List ℕ) : Type 0 where
   pub answer : ◌≡◌ {A = Answer Sealed} (Ok (sealed (bodied E (headed d h) m (length out)))) (seal_answer E s t h m (length out))

@@ -13,8 +13,8 @@ pub struct Draft {
     head_hash: Running,
 }
 
-// What finish gives: the nonce, the tag's length, and sixteen bytes, the tag and then zeros: the form that sealed parts are handed on in.
-// It has no ==: two tags are compared byte for byte to the end, by the crate checks alone.
+// What finish gives: the nonce, the tag's length, and sixteen bytes, the tag and then zeros, since that is the form in which a seal
+// is handed on. It has no ==, which would stop at the first byte that differs.
 #[derive(Debug, Drop)]
 pub struct Sealed {
     pub nonce: u64,

@@ -66,3 +66,6 @@ few_bits n i h g =
     let le : 4 * i ≤ 128 = omega arith in
     let p : 2 ^ (4 * i) ≤ 2 ^ 128 = pow_mono le in
     omega arith
+
+-- what the proof of `number` takes
+pub ruleset reading = (number_none, number_stops, number_of_accepts)

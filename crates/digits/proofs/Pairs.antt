@@ -56,3 +56,6 @@ bytes_odd (a ∷ b ∷ cs) h = ap (byte_before (then_digit (value_of a) (value_o
     go : (o : Option ℕ) → byte_before o None ≡ None
     go None = refl
     go (Some b) = refl
+
+-- what the proof of `bytes` takes
+pub ruleset pairing = (pairs_at, bytes_more, bytes_stop, bytes_all, bytes_odd)

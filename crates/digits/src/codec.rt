@@ -23,7 +23,8 @@ pub fn digits_of(byte: u8) -> [u8; 2]
     [digit_of(byte / 16), digit_of(byte % 16)]
 }
 
-// The byte that two characters are; one that is no digit counts as 0.
+// The byte that two characters are; one that is no digit counts as 0. Not `byte_of`: there one such character leaves no byte,
+// and here the other digit still counts.
 fn byte_at(pair: &[u8; 2]) -> u8
     ensures { result ≡ 16 * value (slice_index pair.now 0) + value (slice_index pair.now 1) }
 {
@@ -35,6 +36,7 @@ fn byte_at(pair: &[u8; 2]) -> u8
 
 // Fills the front of a buffer with the bytes that digits are, as far as both reach; the rest of it stays. It judges nothing: a
 // character that is no digit counts as 0.
+#[tactic(auto, using(crate::proofs::Hexes::unhex_pairs))]
 pub fn decode(text: &[u8], out: &mut [u8])
     ensures { out.new ≡ decoded text.now out.old }
 {

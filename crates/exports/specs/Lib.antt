@@ -1,3 +1,4 @@
 pub mod Fronts
 pub mod Images
 pub mod Sheets
+pub mod Calls

@@ -7,11 +7,13 @@ ghost use Rattle.blocks.specs.Blocks.{bytes_of};
 ghost use Rattle.keystream.specs.Counters.{ciphered};
 ghost use Rattle.polyhash.specs.Hash.{hash};
 
+use aes::Aes128;
 use ciphers::generic::under_key;
-use keystream::stream::xor_onto;
+use keystream::Keystream;
 use polyhash::running::calls::hash_of;
 use refusals::Refusal;
 
+mod fault;
 pub mod images;
 pub mod sheets;
 pub mod texts;
@@ -37,9 +39,9 @@ pub extern "C" fn navreluk_xor_aes(key: &[u8], nonce: u64, offset: u64, bytes: &
     ensures answer { result ≡ (if nat_eq (length key.now) 16 then 0 else 7) }
     ensures after { bytes.new ≡ (if nat_eq (length key.now) 16 then ciphered (aes_128 key.now) nonce offset bytes.old else bytes.old) }
 {
-    match under_key::<aes::Aes128>(key) {
+    match under_key::<Aes128>(key) {
         Ok(cipher) => {
-            xor_onto(&cipher, nonce, offset, bytes);
+            Keystream::new(&cipher, nonce).xor_onto(offset, bytes);
             0
         }
         Err(fault) => fault.number(),

@@ -1,37 +1,18 @@
 // Sealing, checking and the keystream under a cipher that is named by a number.
 ghost use Rattle.std.specs.Prelude.{◌≡◌, length, if◌then◌else◌, nat_eq};
 ghost use Rattle.exports.specs.Images.{cipher_of};
-ghost use Rattle.exports.specs.Sheets.{number_of, keyed, under, checked, xored, sealing, seal_text, tag_or};
+ghost use Rattle.exports.specs.Sheets.{number_of, under, checked, xored, sealing, seal_text, tag_or};
 
-use crate::images::{BAD_CALL, cipher_of};
+use crate::fault::{BAD_CALL, status};
+use crate::images::cipher_under;
 use checks::sheet::calls::check;
 use chm::sealer::Sealer;
-use cipherlines::chosen::Name;
-use ciphers::cipher::BlockCipher;
-use ciphers::generic::under_key;
-use keystream::stream::xor_onto;
+use keystream::Keystream;
+use method::sheet::Sheet;
 use refusals::Refusal;
 use stores::register::Register;
 use stores::store::UNWRITTEN;
-
-fn check_under<C: BlockCipher + Drop>(
-    key: &[u8],
-    nonce: u64,
-    header: &[u8],
-    ciphertext: &[u8],
-    tag: &[u8],
-) -> u8
-    ensures { result ≡ keyed C.BlockCipher.bytes C.BlockCipher.standard key.now 7
-        (checked nonce header.now ciphertext.now tag.now) }
-{
-    match under_key::<C>(key) {
-        Ok(cipher) => match check(&cipher, nonce, header, ciphertext, tag) {
-            Ok(_) => 0,
-            Err(fault) => fault.number(),
-        },
-        Err(fault) => fault.number(),
-    }
-}
+use stores::supply::Supply;
 
 // Checks a sheet and answers 0, or the refusal's number; 7 for a key of another length than the cipher's, 255 for a number that is no cipher's.
 #[unsafe(no_mangle)]
@@ -46,28 +27,14 @@ pub extern "C" fn navreluk_check(
     ensures { result ≡ under (cipher_of cipher) key.now 255 7
         (checked nonce header.now ciphertext.now tag.now) }
 {
-    match cipher_of(cipher) {
-        Some(Name::Practice) => check_under::<ciphers::practice::Practice>(
-            key, nonce, header, ciphertext, tag,
-        ),
-        Some(Name::Aes) => check_under::<aes::Aes128>(key, nonce, header, ciphertext, tag),
-        Some(Name::Speck) => check_under::<speck::Speck128_256>(
-            key, nonce, header, ciphertext, tag,
-        ),
-        None => BAD_CALL,
-    }
-}
-
-fn xor_under<C: BlockCipher + Drop>(key: &[u8], nonce: u64, offset: u64, bytes: &mut [u8]) -> u8
-    ensures answer { result ≡ (if nat_eq (length key.now) C.BlockCipher.bytes then 0 else 7) }
-    ensures after { bytes.new ≡ keyed C.BlockCipher.bytes C.BlockCipher.standard key.now bytes.old
-        (xored nonce offset bytes.old) }
-{
-    match under_key::<C>(key) {
-        Ok(cipher) => {
-            xor_onto(&cipher, nonce, offset, bytes);
-            0
-        }
+    let sheet = Sheet {
+        nonce,
+        header,
+        ciphertext,
+        tag,
+    };
+    match cipher_under(cipher, key) {
+        Ok(chosen) => status(check(&chosen, &sheet)),
         Err(fault) => fault.number(),
     }
 }
@@ -85,42 +52,10 @@ pub extern "C" fn navreluk_xor(
     ensures after { bytes.new ≡ under (cipher_of cipher) key.now bytes.old bytes.old
         (xored nonce offset bytes.old) }
 {
-    match cipher_of(cipher) {
-        Some(Name::Practice) => xor_under::<ciphers::practice::Practice>(key, nonce, offset, bytes),
-        Some(Name::Aes) => xor_under::<aes::Aes128>(key, nonce, offset, bytes),
-        Some(Name::Speck) => xor_under::<speck::Speck128_256>(key, nonce, offset, bytes),
-        None => BAD_CALL,
-    }
-}
-
-fn seal_under<C: BlockCipher + Drop>(
-    key: &[u8],
-    mark: u64,
-    tag_len: u8,
-    header: &[u8],
-    message: &[u8],
-    out: &mut [u8],
-    tag: &mut [u8],
-) -> u8
-    requires { length tag.old ≡ 16 }
-    ensures answer { result ≡ keyed C.BlockCipher.bytes C.BlockCipher.standard key.now 7
-        (λ E. number_of (sealing mark tag_len header.now message.now (length out.old) E)) }
-    ensures wrote { out.new ≡ keyed C.BlockCipher.bytes C.BlockCipher.standard key.now out.old
-        (seal_text mark tag_len header.now message.now out.old) }
-    ensures tagged { tag.new ≡ keyed C.BlockCipher.bytes C.BlockCipher.standard key.now tag.old
-        (λ E. tag_or tag.old (sealing mark tag_len header.now message.now (length out.old) E)) }
-{
-    match under_key::<C>(key) {
-        Ok(cipher) => {
-            let register = Register::new(mark, u32::MAX, UNWRITTEN);
-            let mut sealer = Sealer::new(cipher, register);
-            match sealer.seal(tag_len, header, message, out) {
-                Ok(sealed) => {
-                    tag.copy_from_slice(&sealed.tag);
-                    0
-                }
-                Err(fault) => fault.number(),
-            }
+    match cipher_under(cipher, key) {
+        Ok(chosen) => {
+            Keystream::new(&chosen, nonce).xor_onto(offset, bytes);
+            0
         }
         Err(fault) => fault.number(),
     }
@@ -150,16 +85,21 @@ pub extern "C" fn navreluk_seal_at(
     if tag.len() != blocks::BLOCK_BYTES {
         return BAD_CALL;
     }
-    match cipher_of(cipher) {
-        Some(Name::Practice) => {
-            seal_under::<ciphers::practice::Practice>(key, mark, tag_len, header, message, out, tag)
+    match cipher_under(cipher, key) {
+        Ok(chosen) => {
+            let supply = Supply {
+                power: u32::MAX,
+                leftover: UNWRITTEN,
+            };
+            let mut sealer = Sealer::new(chosen, Register::new(mark, supply));
+            match sealer.seal(tag_len, header, message, out) {
+                Ok(sealed) => {
+                    tag.copy_from_slice(&sealed.tag);
+                    0
+                }
+                Err(fault) => fault.number(),
+            }
         }
-        Some(Name::Aes) => {
-            seal_under::<aes::Aes128>(key, mark, tag_len, header, message, out, tag)
-        }
-        Some(Name::Speck) => {
-            seal_under::<speck::Speck128_256>(key, mark, tag_len, header, message, out, tag)
-        }
-        None => BAD_CALL,
+        Err(fault) => fault.number(),
     }
 }

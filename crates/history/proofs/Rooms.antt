@@ -1,36 +1,21 @@
--- Buffers for the calls: one more, and one taken. Assumes nothing.
-use Rattle.std.proofs.Common.{◌≡◌, ℕ, ◌+◌, ◌<◌, ◌≤◌, ◌≢◌, List, [], ◌∷◌, ◌++◌, length, get_or, set, None, Option, Vec, sym, ap, ◌∙◌, subst, ⊎_elim, arith, get_or-set_other}
-use Rattle.std.proofs.lemmas.List.{get_or_append_left, get_or_push, get_or_default}
-use Rattle.std.proofs.lemmas.Bool.{cases_lt}
-use Rattle.std.specs.declared.alloc.Global.{Global}
-use Rattle.history.specs.Runs.{asked}
-use Rattle.history.specs.Slots.{RoomFor}
-use Rattle.history.specs.declared.Call.{Call}
+-- The pairs of two lists. Assumes nothing.
+use Rattle.std.proofs.Common.{◌≡◌, ℕ, zero, suc, ◌<◌, List, [], ◌∷◌, length, get_or, ap, ◌∙◌, arith}
+use Rattle.std.proofs.lemmas.Slice.Zip.{length-zip, get_or-zip}
+use Rattle.std.specs.List.{AllZip, zip}
 
-abbrev Buffers : Type 0
-Buffers = List (Option (Vec ℕ Global))
+-- a pair of the list of pairs, found at n
+pub zipped_at : {A B : Type 0} (xs : List A) (ys : List B) (x : A × B) (n : ℕ) → (n < length (zip xs ys)) × (x ≡ get_or (zip xs ys) n x)
+    → (n < length xs) × (x.0 ≡ get_or xs n x.0) × (x.1 ≡ get_or ys n x.1)
+zipped_at xs ys x n at =
+    let left : n < length xs = omega (arith, at.0, length-zip xs ys) in
+    let right : n < length ys = omega (arith, at.0, length-zip xs ys) in
+    let e = at.1 ∙ get_or-zip xs ys n x left right in
+    (left, ap (λ p. p.0) e, ap (λ p. p.1) e)
 
--- each of the calls from a up to b has its buffer
-abbrev pub Rooms : List Call → Buffers → ℕ → ℕ → Type 0
-Rooms cs vs a b = (i : ℕ) (d : Call) → a ≤ i → i < b → RoomFor (asked (get_or cs i d)) (get_or vs i None)
-
-pub rooms_more : (cs : List Call) (vs ws : Buffers) (n : ℕ) (x : Option (Vec ℕ Global)) (e : Call) → length vs ≡ n → n < length cs → ws ≡ vs ++ x ∷ []
-    → RoomFor (asked (get_or cs n e)) x → ((i : ℕ) (d : Call) → i < n → RoomFor (asked (get_or cs i d)) (get_or vs i None))
-    → (i : ℕ) (d : Call) → i < n + 1 → RoomFor (asked (get_or cs i d)) (get_or ws i None)
-rooms_more cs vs ws n x e len k ew here before i d h =
-    ⊎_elim
-    (λ u.
-    let at : get_or ws i None ≡ get_or vs i None = ap (λ l. get_or l i None) ew ∙ get_or_append_left vs (x ∷ []) None i (omega arith) in
-    subst (RoomFor (asked (get_or cs i d))) (sym at) (before i d u))
-    (λ u.
-    let is : i ≡ n = omega arith in
-    let at : get_or ws i None ≡ x = ap (λ l. get_or l i None) ew ∙ get_or_push vs x None i (omega arith) in
-    let same : get_or cs n e ≡ get_or cs i d = ap (λ j. get_or cs j e) (sym is) ∙ get_or_default cs i e d (omega arith) in
-    subst (RoomFor (asked (get_or cs i d))) (sym at) (subst (λ c. RoomFor (asked c) x) same here))
-    (cases_lt i n)
-
--- what is taken from place n leaves the places behind it
-pub rooms_taken : (cs : List Call) (vs : Buffers) (n b : ℕ) (x : Option (Vec ℕ Global)) → Rooms cs vs n b → Rooms cs (set vs n x) (n + 1) b
-rooms_taken cs vs n b x r i d l h =
-    let ne : i ≢ n = omega arith in
-    subst (RoomFor (asked (get_or cs i d))) (sym (get_or-set_other vs n i x None ne)) (r i d (omega arith) h)
+-- what holds of each pair
+pub AllZip-at : {A B : Type 0} (R : A → B → Type 0) (xs : List A) (ys : List B) (n : ℕ) (d : A) (e : B) → AllZip R xs ys → n < length xs
+    → R (get_or xs n d) (get_or ys n e)
+AllZip-at R [] ys n d e h k = absurd (omega arith)
+AllZip-at R (x ∷ xs) [] n d e h k = absurd h
+AllZip-at R (x ∷ xs) (y ∷ ys) zero d e h k = h.0
+AllZip-at R (x ∷ xs) (y ∷ ys) (suc n) d e h k = AllZip-at R xs ys n d e h.1 (omega arith)

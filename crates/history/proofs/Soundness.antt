@@ -6,7 +6,7 @@ use Rattle.std.proofs.lemmas.Bool.{cases_lt, cases_order}
 use Rattle.chm.specs.Sealers.{Standing, standing, batch}
 use Rattle.chm.specs.declared.batch.Batch.{Batch}
 use Rattle.method.specs.Published.{crypt}
-use Rattle.polyhash.proofs.Chains.{bytes_append}
+use Rattle.blocks.proofs.Bytes.{bytes_append}
 use Rattle.stores.proofs.Raises.{raised-lawful, restarted-lawful, raised_grows, raised-taken}
 use Rattle.stores.specs.Store.{Store, raise_answer, raised, Lawful}
 use Rattle.history.specs.Held.{Fine, AllFine, front, Backed, Rising, Sound}

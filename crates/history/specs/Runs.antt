@@ -5,11 +5,14 @@
 -- History: where a list of calls has come to.
 -- Answers E h c r k: in h the call c is answered r and leads to k, under a cipher that means E.
 -- Run E h cs rs k: the calls cs, answered rs, lead from h to k.
-use Rattle.std.specs.Prelude.{◌≡◌, ℕ, ◌+◌, ◌-◌, ◌*◌, ◌<◌, ◌≤◌, Bool, true, false, List, [], ◌∷◌, ◌++◌, length, get_or, replicate, Some, None, Ok, Err, vec_items, Option, ◌≢◌, slice_index_or, slice_set}
+use Rattle.std.specs.Prelude.{◌≡◌, ℕ, ◌+◌, ◌-◌, ◌*◌, ◌<◌, ◌≤◌, Bool, true, false, List, [], ◌∷◌, ◌++◌, length, get_or, replicate, Some, None, Ok, Err, vec_items, Option, Result, Vec, ◌≢◌, slice_index_or, slice_set}
+use Rattle.std.specs.declared.alloc.Global.{Global}
 use Rattle.blocks.specs.Blocks.{AllBytes}
 use Rattle.chm.specs.Drafts.{head_told, body_told}
 use Rattle.chm.specs.Sealers.{Standing, standing, batch, batch_nonces, begin_told, sealer_down}
 use Rattle.chm.specs.declared.batch.Batch.{Batch}
+use Rattle.chm.specs.declared.fault.BeginFault.{BeginFault}
+use Rattle.chm.specs.declared.fault.BodyFault.{BodyFault}
 use Rattle.method.specs.Limits.{header_limit, message_limit, header_too_long, message_too_long, lengths_differ, bad_tag_length}
 use Rattle.method.specs.Published.{crypt, tag}
 use Rattle.refusals.specs.Answers.{Told}
@@ -33,7 +36,7 @@ asked (call.Begin t) = begin t
 asked (call.Head n p) = head n p.now
 asked (call.Body n p room) = body n p.now room
 asked (call.Finish n) = finish n
-asked (call.Restart p v) = restart p v
+asked (call.Restart s) = restart s.power s.leftover
 
 -- the number of the draft; a refusal; a piece of header taken; the bytes that a body wrote; a finished seal's nonce, tag length and
 -- sixteen bytes; and for an entry that names no open draft, and so is no call, that there is none
@@ -46,16 +49,24 @@ pub data Said : Type 0 where
   restarted_so : Said
   no_draft : Said
 
-abbrev pub said : Reply → Said
-said (reply.Begun n) = begun n
-said (reply.BeginRefused f) = refused (begin_told f)
-said reply.Headed = taken
-said (reply.HeadRefused f) = refused (head_told f)
-said (reply.Wrote v) = wrote (vec_items v)
-said (reply.BodyRefused f) = refused (body_told f)
-said (reply.Finished s) = finished s.nonce s.tag_len s.tag
-said reply.Restarted = restarted_so
-said reply.NoDraft = no_draft
+-- what a result tells, where `ok` says what its value tells
+abbrev pub told_as : {A E : Type 0} → (A → Said) → (E → Told) → Result A E → Said
+told_as ok told (Ok a) = ok a
+told_as ok told (Err e) = refused (told e)
+
+abbrev pub begun_said : Result ℕ BeginFault → Said
+begun_said r = told_as begun begin_told r
+
+abbrev pub wrote_said : Result (Vec ℕ Global) BodyFault → Said
+wrote_said r = told_as (λ v. wrote (vec_items v)) body_told r
+
+abbrev pub said : Option Reply → Said
+said None = no_draft
+said (Some (reply.Begun r)) = begun_said r
+said (Some (reply.Headed r)) = told_as (λ u. taken) head_told r
+said (Some (reply.Wrote r)) = wrote_said r
+said (Some (reply.Finished s)) = finished s.nonce s.tag_len s.tag
+said (Some reply.Restarted) = restarted_so
 
 -- the nonce that its begin issued and the tag's length, the header and the message that its accepted pieces joined, what its bodies
 -- wrote, joined, and whether it is finished

@@ -3,10 +3,11 @@
 
 use chm::draft::Sealed;
 use chm::fault::{BeginFault, BodyFault, HeadFault};
+use stores::supply::Supply;
 
 // A call on a sealer, or on the draft of the accepted begin of that number. A body carries the length of the buffer that is
 // handed in for its ciphertext.
-#[derive(Clone, Copy)]
+#[derive(Clone, Copy, Debug, PartialEq, Eq)]
 pub enum Call<'a> {
     Begin {
         tag_len: u8,
@@ -23,27 +24,19 @@ pub enum Call<'a> {
     Finish {
         draft: usize,
     },
-    Restart {
-        power: u32,
-        leftover: u8,
-    },
+    Restart(Supply),
 }
 
 // What a call answered.
-#[derive(Drop)]
+#[derive(Debug, Drop)]
 pub enum Reply {
     // the number of the draft
-    Begun { draft: usize },
-    BeginRefused(BeginFault),
-    Headed,
-    HeadRefused(HeadFault),
+    Begun(Result<usize, BeginFault>),
+    Headed(Result<(), HeadFault>),
     // the ciphertext that the body wrote
-    Wrote(Vec<u8>),
-    BodyRefused(BodyFault),
+    Wrote(Result<Vec<u8>, BodyFault>),
     Finished(Sealed),
     Restarted,
-    // the entry names no open draft, and so is no call
-    NoDraft,
 }
 
 pub mod calls;

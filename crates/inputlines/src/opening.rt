@@ -6,8 +6,9 @@ use crate::fault::BadLine;
 use crate::line::{bytes_line, name_line};
 use cipherlines::chosen::Name;
 
-// The first two lines of an input, a cipher's name and a key, which is still in digits, and what stands behind them.
-#[derive(Clone, Copy, Debug, PartialEq, Eq)]
+// The first two lines of an input, a cipher's name and a key, which is still in digits, and what stands behind them. It holds a key,
+// so it derives neither printing nor comparison.
+#[derive(Clone, Copy)]
 pub struct Opening<'a> {
     pub name: Name,
     pub key: &'a [u8],

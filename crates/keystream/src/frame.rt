@@ -35,7 +35,8 @@ impl<C: Permutation> Keystream<'_, C> {
         requires { frame < 2 ^ 55 }
         ensures { result ≡ mask (C.image self.now.cipher.now) self.now.nonce frame }
     {
-        self.cipher.image_of(counter_of(self.nonce, FRAME_COUNTERS * frame))
+        self.cipher
+            .image_of(counter_of(self.nonce, FRAME_COUNTERS * frame))
     }
 
     // A keystream block that a message can reach, under a mask.
@@ -43,7 +44,9 @@ impl<C: Permutation> Keystream<'_, C> {
         requires { index < 2 ^ 63 }
         ensures { result ≡ block_under (C.image self.now.cipher.now) self.now.nonce veil index }
     {
-        self.cipher.image_of(counter_of(self.nonce, counter_behind(index))) ^ veil
+        self.cipher
+            .image_of(counter_of(self.nonce, counter_behind(index)))
+            ^ veil
     }
 
     // The mask of a frame.

@@ -40,6 +40,7 @@ impl<C: Permutation> Keystream<'_, C> {
     {
         let mut veil = 0;
         let mut at = 0;
+        // counted by hand: the first part may be short, and a proof knows nothing of what is written through `chunks_mut`
         while at < bytes.len() {
             // in 128 bits, so that no offset is too large
             let position = u128::from(offset) + at as u128;

@@ -36,11 +36,12 @@ impl Shown for Strip<'_> {
     }
 }
 
-// Gives the orders up to an empty line.
+// Gives the orders up to an empty line. No line comes back.
 fn day<S: Shown>(rt: &HostRuntime, lines: &mut Iter<'_, Line>, store: &mut S) -> io::Result<()>
     ensures { length lines.new.rest.now ≤ length lines.old.rest.now }
 {
     store.show(rt)?;
+    // Not `for .. in lines`: a proof does not know what a lent iterator holds after such a loop.
     while let Some((number, line)) = lines.next() {
         if line.is_empty() {
             return println!(rt; "");

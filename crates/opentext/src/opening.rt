@@ -2,12 +2,10 @@
 ghost use Rattle.std.specs.Prelude.{◌≡◌, IfOk};
 ghost use Rattle.digits.specs.Hex.{unhex};
 ghost use Rattle.inputlines.specs.Openings.{opening_told};
-ghost use Rattle.opentext.specs.Texts.{opened_text, keyed_text, named_text};
+ghost use Rattle.opentext.specs.Texts.{opened_text, named_text};
 
 use crate::text::{refused_key, refused_open, sheet_lines};
-use cipherlines::chosen::Name;
-use ciphers::cipher::BlockCipher;
-use ciphers::generic::under_key;
+use ciphers::cipher::Permutation;
 use digits::codec::decode;
 use inputlines::opening::Opening;
 use method::limits::{HEADER_LIMIT, MESSAGE_LIMIT};
@@ -24,7 +22,7 @@ fn bytes_of(heap: Global, text: &[u8]) -> Result<Vec<u8>, AllocError>
 }
 
 // Header and message of the sheet's lines, a line each, or the refusal.
-fn open_text<C: BlockCipher>(heap: Global, cipher: &C, text: &[u8]) -> Result<Vec<u8>, AllocError>
+fn open_text<C: Permutation>(heap: Global, cipher: &C, text: &[u8]) -> Result<Vec<u8>, AllocError>
     ensures { IfOk result (λ v. v.items ≡ opened_text (C.image cipher.now) text.now) }
 {
     let mut header = vec![in heap; 0u8; HEADER_LIMIT]?;
@@ -39,29 +37,13 @@ fn open_text<C: BlockCipher>(heap: Global, cipher: &C, text: &[u8]) -> Result<Ve
     }
 }
 
-// The same under a cipher, whatever it is named, and a key in digits.
-fn open_with<C: BlockCipher + Drop>(
-    heap: Global,
-    key: &[u8],
-    text: &[u8],
-) -> Result<Vec<u8>, AllocError>
-    ensures { IfOk result (λ v. v.items ≡
-        keyed_text C.BlockCipher.bytes C.BlockCipher.standard (unhex key.now) text.now) }
-{
-    let key = bytes_of(heap, key)?;
-    match under_key::<C>(&key) {
-        Ok(cipher) => open_text(heap, &cipher, text),
-        Err(fault) => refused_key(heap, fault),
-    }
-}
-
-// The same under the cipher that the input names.
+// The same under the cipher that the input names, and its key in digits.
 pub(crate) fn open_named(heap: Global, opening: Opening<'_>) -> Result<Vec<u8>, AllocError>
     ensures { IfOk result (λ v. v.items ≡ named_text (opening_told opening.entry)) }
 {
-    match opening.name {
-        Name::Practice => open_with::<ciphers::practice::Practice>(heap, opening.key, opening.rest),
-        Name::Aes => open_with::<aes::Aes128>(heap, opening.key, opening.rest),
-        Name::Speck => open_with::<speck::Speck128_256>(heap, opening.key, opening.rest),
+    let key = bytes_of(heap, opening.key)?;
+    match opening.name.under_key(&key) {
+        Ok(cipher) => open_text(heap, &cipher, opening.rest),
+        Err(fault) => refused_key(heap, fault),
     }
 }

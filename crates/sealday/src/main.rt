@@ -2,28 +2,31 @@
 // reads what was finished. At the end the last nonces of a register.
 #![tactic(auto)]
 
+use aes::Aes128;
 use anyhow::anyhow;
 use checks::sheet::CheckedSheet;
 use checks::sheet::calls::check;
 use chm::draft::Sealed;
-use ciphers::cipher::BlockCipher;
+use ciphers::cipher::{BlockCipher, Permutation};
 use ciphers::generic::under_key;
+use ciphers::practice::Practice;
 use history::calls::replay;
 use history::{Call, Reply};
+use method::sheet::Sheet;
 use refusals::Refusal;
+use speck::Speck128_256;
 use std::alloc::{AllocError, Global};
 use std::io;
 use stores::register::Register;
 use stores::store::MarkStore;
 use stores::strip::Strip;
+use stores::supply::Supply;
 
 // A register has marks up to this.
 const REGISTER_END: u64 = 1 << 53;
 
 // One begin more than a batch has nonces.
 const LAST_BEGINS: usize = 1025;
-
-const FULL_TAG: usize = 16;
 
 // The part of each message that is read alone.
 const PART_OFFSET: usize = 14;
@@ -98,10 +101,10 @@ fn day() -> [Call<'static>; 32] {
             room: 7,
         },
         Call::Finish { draft: 0 },
-        Call::Restart {
+        Call::Restart(Supply {
             power: 0,
             leftover: 0x7f,
-        },
+        }),
         Call::Begin { tag_len: 14 },
         Call::Begin { tag_len: 14 },
         Call::Begin { tag_len: 17 },
@@ -110,10 +113,10 @@ fn day() -> [Call<'static>; 32] {
             piece: b" Bolts M16.",
             room: 11,
         },
-        Call::Restart {
+        Call::Restart(Supply {
             power: 1,
             leftover: 0xff,
-        },
+        }),
         Call::Begin { tag_len: 14 },
         Call::Body {
             draft: 2,
@@ -127,10 +130,10 @@ fn day() -> [Call<'static>; 32] {
             room: 14,
         },
         Call::Finish { draft: 2 },
-        Call::Restart {
+        Call::Restart(Supply {
             power: 1,
             leftover: 0xff,
-        },
+        }),
         Call::Begin { tag_len: 16 },
         Call::Finish { draft: 3 },
     ]
@@ -142,10 +145,7 @@ fn keyed<C: BlockCipher + Drop>() -> anyhow::Result<C> {
     for (i, byte) in key.iter_mut().enumerate() {
         *byte = i as u8;
     }
-    match under_key::<C>(&key[0..C::key_len().min(32)]) {
-        Ok(cipher) => Ok(cipher),
-        Err(_) => Err(anyhow!("the key has another length")),
-    }
+    under_key(&key[..C::key_len().min(32)]).map_err(|_| anyhow!("the key has another length"))
 }
 
 fn show_bytes(rt: &HostRuntime, bytes: &[u8]) -> io::Result<()> {
@@ -161,11 +161,6 @@ fn show_text(rt: &HostRuntime, bytes: &[u8]) -> anyhow::Result<()> {
     Ok(())
 }
 
-// The tag without the zeros after it.
-fn tag_of(sealed: &Sealed) -> &[u8] {
-    &sealed.tag[0..FULL_TAG.min(sealed.tag_len as usize)]
-}
-
 fn show_call(rt: &HostRuntime, call: &Call<'_>) -> anyhow::Result<()> {
     match call {
         Call::Begin { tag_len } => print!(rt; "begin with a tag of {tag_len} bytes")?,
@@ -179,65 +174,70 @@ fn show_call(rt: &HostRuntime, call: &Call<'_>) -> anyhow::Result<()> {
             print!(rt; " with room for {room} bytes")?;
         }
         Call::Finish { draft } => print!(rt; "finish of draft {draft}")?,
-        Call::Restart { power, leftover } => {
+        Call::Restart(supply) => {
+            let Supply { power, leftover } = *supply;
             print!(rt; "restart with power {power} and leftover {leftover:02x}")?
         }
     }
     Ok(())
 }
 
-fn show_reply(rt: &HostRuntime, reply: &Reply) -> io::Result<()> {
+fn show_refusal(rt: &HostRuntime, fault: &impl Refusal) -> io::Result<()> {
+    print!(rt; "refused {}", fault.number())
+}
+
+fn show_reply(rt: &HostRuntime, reply: &Option<Reply>) -> io::Result<()> {
     match reply {
-        Reply::Begun { draft } => print!(rt; "draft {draft}"),
-        Reply::BeginRefused(fault) => print!(rt; "refused {}", fault.number()),
-        Reply::Headed => print!(rt; "taken"),
-        Reply::HeadRefused(fault) => print!(rt; "refused {}", fault.number()),
-        Reply::Wrote(bytes) if bytes.is_empty() => print!(rt; "wrote nothing"),
-        Reply::Wrote(bytes) => {
+        Some(Reply::Begun(Ok(draft))) => print!(rt; "draft {draft}"),
+        Some(Reply::Begun(Err(fault))) => show_refusal(rt, fault),
+        Some(Reply::Headed(Ok(()))) => print!(rt; "taken"),
+        Some(Reply::Headed(Err(fault))) => show_refusal(rt, fault),
+        Some(Reply::Wrote(Ok(bytes))) if bytes.is_empty() => print!(rt; "wrote nothing"),
+        Some(Reply::Wrote(Ok(bytes))) => {
             print!(rt; "wrote ")?;
             show_bytes(rt, bytes)
         }
-        Reply::BodyRefused(fault) => print!(rt; "refused {}", fault.number()),
-        Reply::Finished(sealed) => {
+        Some(Reply::Wrote(Err(fault))) => show_refusal(rt, fault),
+        Some(Reply::Finished(sealed)) => {
             print!(rt; "nonce {}, tag ", sealed.nonce)?;
-            show_bytes(rt, tag_of(sealed))
+            show_bytes(rt, sealed.tag())
         }
-        Reply::Restarted => print!(rt; "restarted"),
-        Reply::NoDraft => print!(rt; "no open draft"),
+        Some(Reply::Restarted) => print!(rt; "restarted"),
+        None => print!(rt; "no open draft"),
     }
 }
 
 // What was fed to a draft and what it wrote, both joined.
 #[derive(Drop)]
-struct Sheet {
+struct Pieces {
     header: Vec<u8>,
     ciphertext: Vec<u8>,
 }
 
-fn sheet_of(
+fn pieces_of(
     heap: Global,
     calls: &[Call<'_>],
-    replies: &[Reply],
+    replies: &[Option<Reply>],
     wanted: usize,
-) -> Result<Sheet, AllocError> {
+) -> Result<Pieces, AllocError> {
     let mut header = Vec::new(heap);
     let mut ciphertext = Vec::new(heap);
     for (call, reply) in calls.iter().zip(replies) {
         match (call, reply) {
-            (Call::Head { draft, piece }, Reply::Headed) if *draft == wanted => {
+            (Call::Head { draft, piece }, Some(Reply::Headed(Ok(())))) if *draft == wanted => {
                 header.extend_from_slice(piece)?;
             }
-            (Call::Body { draft, .. }, Reply::Wrote(bytes)) if *draft == wanted => {
+            (Call::Body { draft, .. }, Some(Reply::Wrote(Ok(bytes)))) if *draft == wanted => {
                 ciphertext.extend_from_slice(bytes)?;
             }
             _ => {}
         }
     }
-    Ok(Sheet { header, ciphertext })
+    Ok(Pieces { header, ciphertext })
 }
 
 // Reads so many bytes from an offset on, and prints them as text.
-fn show_read<C: BlockCipher>(
+fn show_read<C: Permutation>(
     rt: &HostRuntime,
     cipher: &C,
     sheet: &CheckedSheet<'_>,
@@ -248,44 +248,42 @@ fn show_read<C: BlockCipher>(
     let mut out = vec![in rt.alloc(); 0u8; len]?;
     match sheet.read(cipher, offset, &mut out) {
         Ok(()) => show_text(rt, &out)?,
-        Err(fault) => print!(rt; "refused {}", fault.number())?,
+        Err(fault) => show_refusal(rt, &fault)?,
     }
     println!(rt; "")?;
     Ok(())
 }
 
 // Checks a finished seal and reads it, whole and in part, and past its end; and checks it with a tag that has one bit changed.
-fn show_check<C: BlockCipher>(
+fn show_check<C: Permutation>(
     rt: &HostRuntime,
     cipher: &C,
-    sheet: &Sheet,
-    sealed: &Sealed,
+    sheet: &Sheet<'_>,
 ) -> anyhow::Result<()> {
-    let nonce = sealed.nonce;
-    match check(
-        cipher,
-        nonce,
-        &sheet.header,
-        &sheet.ciphertext,
-        tag_of(sealed),
-    ) {
+    match check(cipher, sheet) {
         Ok(checked) => {
             print!(rt; "nonce {} under ", checked.nonce())?;
-            show_text(rt, &sheet.header)?;
+            show_text(rt, sheet.header)?;
             println!(rt; ": accepted")?;
             show_read(rt, cipher, &checked, 0, checked.len())?;
             show_read(rt, cipher, &checked, PART_OFFSET, PART_LEN)?;
             show_read(rt, cipher, &checked, checked.len(), 1)?;
         }
-        Err(fault) => println!(rt; "nonce {nonce}: refused {}", fault.number())?,
+        Err(fault) => println!(rt; "nonce {}: refused {}", sheet.nonce, fault.number())?,
     }
-    let mut changed = tag_of(sealed).to_vec(rt.alloc())?;
-    if let Some(byte) = changed.last_mut() {
+    let mut tag = sheet.tag.to_vec(rt.alloc())?;
+    if let Some(byte) = tag.last_mut() {
         *byte ^= 1;
     }
     print!(rt; "  with the tag ")?;
-    show_bytes(rt, &changed)?;
-    match check(cipher, nonce, &sheet.header, &sheet.ciphertext, &changed) {
+    show_bytes(rt, &tag)?;
+    match check(
+        cipher,
+        &Sheet {
+            tag: &tag,
+            ..*sheet
+        },
+    ) {
         Ok(_) => println!(rt; ": accepted")?,
         Err(fault) => println!(rt; ": refused {}", fault.number())?,
     }
@@ -297,7 +295,7 @@ fn show_calls(
     rt: &HostRuntime,
     first: usize,
     calls: &[Call<'_>],
-    replies: &[Reply],
+    replies: &[Option<Reply>],
 ) -> anyhow::Result<()> {
     for (call, reply) in calls.iter().zip(replies).skip(first) {
         show_call(rt, call)?;
@@ -319,9 +317,15 @@ fn play<C: BlockCipher + Drop, S: MarkStore + Drop>(
     show_calls(rt, 0, &calls, &replies)?;
     let cipher = keyed::<C>()?;
     for (call, reply) in calls.iter().zip(&replies) {
-        if let (Call::Finish { draft }, Reply::Finished(sealed)) = (call, reply) {
-            let sheet = sheet_of(heap, &calls, &replies, *draft)?;
-            show_check(rt, &cipher, &sheet, sealed)?;
+        if let (Call::Finish { draft }, Some(Reply::Finished(sealed))) = (call, reply) {
+            let Pieces { header, ciphertext } = pieces_of(heap, &calls, &replies, *draft)?;
+            let sheet = Sheet {
+                nonce: sealed.nonce,
+                header: &header,
+                ciphertext: &ciphertext,
+                tag: sealed.tag(),
+            };
+            show_check(rt, &cipher, &sheet)?;
         }
     }
     Ok(())
@@ -330,10 +334,14 @@ fn play<C: BlockCipher + Drop, S: MarkStore + Drop>(
 // The day over a register and over a strip, each with three marks left.
 fn for_each_store<C: BlockCipher + Drop>(rt: &HostRuntime, name: &str) -> anyhow::Result<()> {
     println!(rt; "{name} over the register")?;
-    play::<C, Register>(rt, Register::new(REGISTER_END - 3, 1, 0x7f))?;
+    let supply = Supply {
+        power: 1,
+        leftover: 0x7f,
+    };
+    play::<C, Register>(rt, Register::new(REGISTER_END - 3, supply))?;
     println!(rt; "{name} over the strip")?;
     let mut cells = [0x00, 0xff, 0xff, 0xff];
-    play::<C, Strip<'_>>(rt, Strip::new(&mut cells, 1, 0x7f))?;
+    play::<C, Strip<'_>>(rt, Strip::new(&mut cells, supply))?;
     print!(rt; "cells ")?;
     show_bytes(rt, &cells)?;
     println!(rt; "")?;
@@ -351,15 +359,19 @@ fn last_batch(rt: &HostRuntime) -> anyhow::Result<()> {
         draft: LAST_BEGINS - 2,
     })?;
     println!(rt; "the last batch")?;
-    let store = Register::new(REGISTER_END - 1, 2, 0xff);
-    let replies = replay(heap, keyed::<ciphers::practice::Practice>()?, store, &calls)?;
+    let supply = Supply {
+        power: 2,
+        leftover: 0xff,
+    };
+    let store = Register::new(REGISTER_END - 1, supply);
+    let replies = replay(heap, keyed::<Practice>()?, store, &calls)?;
     show_calls(rt, LAST_BEGINS - 2, &calls, &replies)
 }
 
 fn run(rt: &HostRuntime) -> anyhow::Result<()> {
-    for_each_store::<ciphers::practice::Practice>(rt, "practice")?;
-    for_each_store::<aes::Aes128>(rt, "aes")?;
-    for_each_store::<speck::Speck128_256>(rt, "speck")?;
+    for_each_store::<Practice>(rt, "practice")?;
+    for_each_store::<Aes128>(rt, "aes")?;
+    for_each_store::<Speck128_256>(rt, "speck")?;
     last_batch(rt)
 }
 

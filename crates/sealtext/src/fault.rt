@@ -7,13 +7,14 @@ use ciphers::fault::KeyFault;
 use refusals::Refusal;
 
 // Why an input was not sealed.
-#[derive(Clone, Copy)]
+#[derive(Clone, Copy, Debug, PartialEq, Eq)]
 pub(crate) enum InputFault {
     Key(KeyFault),
     Begin(BeginFault),
     Head(HeadFault),
 }
 
+// these by hand, since a derived `From` has no contract, and clauses name the fault
 impl From<KeyFault> for InputFault {
     ghost from_gives = { λ e r. r ≡ Key e };
 

@@ -17,17 +17,17 @@ mod text;
 // What lies behind so many bytes of an input does not exist.
 const INPUT_LIMIT: usize = 65536;
 
-const OUTPUT_BYTES: usize = 65536;
+// No output is longer.
+pub const OUTPUT_BYTES: usize = 65536;
 
 // Answers a text: the lines of the sheet that it is sealed to, or one line that tells a bad line or a refusal.
-fn answer(text: &[u8], out: &mut [u8]) -> usize
-    requires { length out.old ≡ 65536 }
+fn answer(text: &[u8], out: &mut [u8; OUTPUT_BYTES]) -> usize
     ensures count { result ≡ length (sheetseal_text text.now) }
     ensures wrote { out.new ≡ on_front (sheetseal_text text.now) out.old }
 {
     match parse(text) {
-        Err(line) => put_told("bad line ", line, out),
-        Ok(lines) => match seal(lines, out) {
+        Err(line) => put_told("bad line ", line.number(), out),
+        Ok(lines) => match seal(&lines, out) {
             Err(fault) => put_told("refused ", fault.number(), out),
             Ok(count) => count,
         },

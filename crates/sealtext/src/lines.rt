@@ -1,8 +1,10 @@
 ghost use Rattle.std.specs.Prelude.{◌≡◌, ◌≤◌, length, IfOk, Ok, Err, MatchResult};
 ghost use Rattle.digits.specs.Hex.{unhex};
+ghost use Rattle.inputlines.specs.Faults.{line_number};
 ghost use Rattle.sealtext.specs.Inputs.{longest_message, last_line, parsed, lines_told};
 
 use cipherlines::chosen::Name;
+use inputlines::fault::BadLine;
 use inputlines::line::{bytes_line, number_line};
 use inputlines::opening::read_opening;
 
@@ -20,37 +22,31 @@ pub(crate) struct Lines<'a> {
     pub(crate) message: &'a [u8],
 }
 
-// Reads the last line, a message in digits; the number of the line that is not of its form is the fault.
-fn last_line(text: &[u8]) -> Result<&[u8], u8>
+// Reads the last line, a message in digits; the line that is not of its form is the fault.
+fn last_line(text: &[u8]) -> Result<&[u8], BadLine>
     ensures told { MatchResult result (λ m. last_line text.now ≡ Ok (unhex m.now))
-        (λ n. last_line text.now ≡ Err n) }
+        (λ l. last_line text.now ≡ Err (line_number l)) }
     ensures small { IfOk result (λ m. length (unhex m.now) ≤ longest_message) }
 {
-    let Some((message, rest)) = bytes_line(text) else {
-        return Err(5);
-    };
+    let (message, rest) = bytes_line(text).ok_or(BadLine::Message)?;
     if message.len() / 2 > LONGEST_MESSAGE {
-        return Err(5);
+        return Err(BadLine::Message);
     }
     if !rest.is_empty() {
-        return Err(6);
+        return Err(BadLine::Behind);
     }
     Ok(message)
 }
 
-// Reads the five lines. The number of the first one that is not of its form is the fault; bytes behind the fifth are the sixth.
-pub(crate) fn parse(text: &[u8]) -> Result<Lines<'_>, u8>
+// Reads the five lines. The first one that is not of its form is the fault; bytes behind the fifth are one more.
+pub(crate) fn parse(text: &[u8]) -> Result<Lines<'_>, BadLine>
     ensures told { MatchResult result (λ l. parsed text.now ≡ Ok (lines_told l))
-        (λ n. parsed text.now ≡ Err n) }
+        (λ l. parsed text.now ≡ Err (line_number l)) }
     ensures small { IfOk result (λ l. length (unhex l.message.now) ≤ longest_message) }
 {
     let opening = read_opening(text)?;
-    let Some((mark, after)) = number_line(opening.rest, MARK_DIGITS) else {
-        return Err(3);
-    };
-    let Some((header, after)) = bytes_line(after) else {
-        return Err(4);
-    };
+    let (mark, after) = number_line(opening.rest, MARK_DIGITS).ok_or(BadLine::Mark)?;
+    let (header, after) = bytes_line(after).ok_or(BadLine::Header)?;
     let message = last_line(after)?;
     Ok(Lines {
         name: opening.name,

@@ -1,34 +1,43 @@
 // Sealing what the five lines of an input tell.
 ghost use Rattle.std.specs.Prelude.{◌≡◌, ◌/◌, ◌^◌, ◌<◌, ◌≤◌, [], length};
 ghost use Rattle.refusals.specs.Answers.{answered};
+ghost use Rattle.cipherlines.specs.Chosen.{key_bytes, standard_of, chosen_image};
 ghost use Rattle.ciphers.specs.Keys.{key_told, made_answer, meant};
 ghost use Rattle.digits.specs.Hex.{unhex};
 ghost use Rattle.method.specs.Limits.{header_limit, message_limit};
 ghost use Rattle.method.specs.Published.{crypt, tag};
 ghost use Rattle.chm.specs.Drafts.{words_of, head_told};
 ghost use Rattle.sealtext.specs.Inputs.{longest_message, lines_told};
-ghost use Rattle.sealtext.specs.Seals.{fault_told, tag_bytes, sheet_lines, header_answer, lines_answer, seal_input, counted};
+ghost use Rattle.sealtext.specs.Seals.{fault_told, tag_bytes, sheet_lines, header_answer, seal_input, counted};
 ghost use Rattle.sealtext.specs.Texts.{on_front, answer_front};
 
+use crate::OUTPUT_BYTES;
 use crate::fault::InputFault;
 use crate::lines::{LONGEST_MESSAGE, Lines};
 use chm::draft::{Draft, Sealed};
 use chm::fault::HeadFault;
 use chm::sealer::Sealer;
-use cipherlines::chosen::Name;
-use ciphers::cipher::BlockCipher;
+use cipherlines::chosen::{Chosen, Name};
+use ciphers::cipher::Permutation;
 use ciphers::fault::KeyFault;
-use ciphers::generic::under_key;
 use digits::codec::decode;
 use method::limits::HEADER_LIMIT;
+use method::sheet::Sheet;
 use sheetwriter::write;
 use stores::register::Register;
 use stores::store::UNWRITTEN;
+use stores::supply::Supply;
 
 // No cipher has longer keys.
 const LONGEST_KEY: usize = 32;
 
 const TAG_BYTES: u8 = 16;
+
+// The register's power is the largest.
+const SUPPLY: Supply = Supply {
+    power: u32::MAX,
+    leftover: UNWRITTEN,
+};
 
 // The bytes that digits are, in a buffer that has room for them.
 fn bytes_in<'a>(text: &[u8], room: &'a mut [u8]) -> &'a [u8]
@@ -40,17 +49,16 @@ fn bytes_in<'a>(text: &[u8], room: &'a mut [u8]) -> &'a [u8]
     &room[..len]
 }
 
-// The cipher of a key in digits; a key of the wrong length is refused as 7.
-fn cipher_of<C: BlockCipher + Drop>(key: &[u8]) -> Result<C, KeyFault>
-    requires { C.BlockCipher.bytes ≤ 32 }
-    ensures { answered key_told (meant C.BlockCipher.image result) ≡
-        made_answer C.BlockCipher.bytes C.BlockCipher.standard (unhex key.now) }
+// The named cipher under a key in digits; a key of the wrong length is refused as 7.
+fn cipher_of(name: Name, key: &[u8]) -> Result<Chosen, KeyFault>
+    ensures { answered key_told (meant chosen_image result) ≡
+        made_answer (key_bytes name) (standard_of name) (unhex key.now) }
 {
     if key.len() / 2 > LONGEST_KEY {
         return Err(KeyFault::WrongLength);
     }
     let mut room = [0; LONGEST_KEY];
-    under_key::<C>(bytes_in(key, &mut room))
+    name.under_key(bytes_in(key, &mut room))
 }
 
 // A header in digits, of more bytes than a header may have, is refused as 1.
@@ -64,7 +72,7 @@ fn header_fits(header: &[u8]) -> Result<(), HeadFault>
 }
 
 // Feeds a header and a message to a new draft, and finishes it; the ciphertext has the message's length.
-fn finish_draft<C: BlockCipher>(
+fn finish_draft<C: Permutation>(
     mut draft: Draft,
     cipher: &C,
     header: &[u8],
@@ -89,18 +97,17 @@ fn finish_draft<C: BlockCipher>(
 }
 
 // Finishes a new draft with a header and a message in digits, and writes the sheet's lines.
-fn write_sheet<C: BlockCipher>(
+fn write_sheet<C: Permutation>(
     draft: Draft,
     cipher: &C,
     header: &[u8],
     message: &[u8],
-    out: &mut [u8],
+    out: &mut [u8; OUTPUT_BYTES],
 ) -> usize
     requires begun { draft ≡ words_of (C.image cipher.now) draft.nonce tag_bytes [] [] }
     requires nonce { draft.nonce < 2 ^ 63 }
     requires header { length (unhex header.now) ≤ header_limit }
     requires message { length (unhex message.now) ≤ longest_message }
-    requires room { length out.old ≡ 65536 }
     ensures count { result ≡
         length (sheet_lines (C.image cipher.now) (unhex header.now) (unhex message.now) draft.nonce) }
     ensures wrote { out.new ≡
@@ -114,38 +121,25 @@ fn write_sheet<C: BlockCipher>(
     let message = bytes_in(message, &mut message_room);
     let ciphertext = &mut cipher_room[..message.len()];
     let sealed = finish_draft(draft, cipher, header, message, ciphertext);
-    write(sealed.nonce, header, ciphertext, &sealed.tag, out).unwrap_or(0)
+    let sheet = Sheet {
+        nonce: sealed.nonce,
+        header,
+        ciphertext,
+        tag: &sealed.tag,
+    };
+    write(&sheet, out).unwrap_or(0)
 }
 
-// Seals what the lines tell under a cipher, whatever they name, and writes the sheet's lines to the front of an output. A key of the
-// wrong length is refused as 7, a register that is full as 22, a header over 4,096 bytes as 1, in this order; the output then stays.
-fn seal_with<C: BlockCipher + Drop>(lines: Lines<'_>, out: &mut [u8]) -> Result<usize, InputFault>
-    requires bytes { C.BlockCipher.bytes ≤ 32 }
-    requires message { length (unhex lines.message.now) ≤ longest_message }
-    requires room { length out.old ≡ 65536 }
-    ensures answer { answered fault_told result ≡
-        counted (lines_answer C.BlockCipher.bytes C.BlockCipher.standard (lines_told lines.entry)) }
-    ensures wrote { out.new ≡
-        answer_front (lines_answer C.BlockCipher.bytes C.BlockCipher.standard (lines_told lines.entry)) out.old }
+// Seals what the lines tell, and writes the sheet's lines to the front of an output. A key of the wrong length is refused as 7, a
+// register that is full as 22, a header over 4,096 bytes as 1, in this order; the output then stays.
+pub(crate) fn seal(lines: &Lines<'_>, out: &mut [u8; OUTPUT_BYTES]) -> Result<usize, InputFault>
+    requires { length (unhex lines.now.message.now) ≤ longest_message }
+    ensures answer { answered fault_told result ≡ counted (seal_input (lines_told lines.now)) }
+    ensures wrote { out.new ≡ answer_front (seal_input (lines_told lines.now)) out.old }
 {
-    let cipher = cipher_of::<C>(lines.key)?;
-    let register = Register::new(lines.mark, u32::MAX, UNWRITTEN);
-    let mut sealer = Sealer::new(cipher, register);
+    let cipher = cipher_of(lines.name, lines.key)?;
+    let mut sealer = Sealer::new(cipher, Register::new(lines.mark, SUPPLY));
     let draft = sealer.begin(TAG_BYTES)?;
     header_fits(lines.header)?;
     Ok(write_sheet(draft, sealer.cipher(), lines.header, lines.message, out))
-}
-
-// The same under the cipher that the lines name.
-pub(crate) fn seal(lines: Lines<'_>, out: &mut [u8]) -> Result<usize, InputFault>
-    requires message { length (unhex lines.message.now) ≤ longest_message }
-    requires room { length out.old ≡ 65536 }
-    ensures answer { answered fault_told result ≡ counted (seal_input (lines_told lines.entry)) }
-    ensures wrote { out.new ≡ answer_front (seal_input (lines_told lines.entry)) out.old }
-{
-    match lines.name {
-        Name::Practice => seal_with::<ciphers::practice::Practice>(lines, out),
-        Name::Aes => seal_with::<aes::Aes128>(lines, out),
-        Name::Speck => seal_with::<speck::Speck128_256>(lines, out),
-    }
 }

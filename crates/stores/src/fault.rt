@@ -6,18 +6,15 @@ use refusals::Refusal;
 #[derive(Clone, Copy, Debug, PartialEq, Eq)]
 pub enum RaiseFault {
     // the mark has reached the capacity
-    Full,
+    Full = 22,
     // the store is off, or went off in this raise
-    PowerFailed,
+    PowerFailed = 23,
 }
 
 impl Refusal for RaiseFault {
     ghost told = { raise_told };
 
     fn number(&self) -> u8 {
-        match self {
-            RaiseFault::Full => 22,
-            RaiseFault::PowerFailed => 23,
-        }
+        *self as u8
     }
 }

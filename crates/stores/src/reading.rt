@@ -1,6 +1,9 @@
-ghost use Rattle.std.specs.Prelude.{◌≡◌, Some};
-ghost use Rattle.stores.specs.Readings.{state_text, reading_text};
+ghost use Rattle.std.specs.Prelude.{◌≡◌, true, false, Some};
+ghost use Rattle.refusals.specs.Answers.{answered};
+ghost use Rattle.stores.specs.Readings.{reading_store, state_text, reading_text};
+ghost use Rattle.stores.specs.Store.{raise_told, raise_case, full, power_failed};
 
+use crate::fault::RaiseFault;
 use std::fmt;
 
 // What a mark store is at one moment: the five things that it means, as plain values to be printed or compared.
@@ -11,6 +14,23 @@ pub struct Reading {
     pub power: u32,
     pub leftover: u8,
     pub on: bool,
+}
+
+impl Reading {
+    // Whether a raise of a store that reads so completes: the power fails in one that does not. A store that is off or full
+    // refuses it.
+    pub(crate) fn completes(self) -> Result<bool, RaiseFault>
+        ensures { answered raise_told result
+            ≡ raise_case (reading_store self) (Err power_failed) (Err full) (Ok true) (Ok false) }
+    {
+        if !self.on {
+            return Err(RaiseFault::PowerFailed);
+        }
+        if self.mark == self.capacity {
+            return Err(RaiseFault::Full);
+        }
+        Ok(self.power > 0)
+    }
 }
 
 fn state(on: bool) -> &'static str

@@ -89,21 +89,17 @@ impl MarkStore for Strip<'_> {
             ≡ raised_cells (strip_cells self.old) self.old.on self.old.supply.power self.old.supply.leftover }
         ensures lent { self.new.cells.ghost_name ≡ self.old.cells.ghost_name }
     {
-        if !self.on {
-            return Err(RaiseFault::PowerFailed);
-        }
-        let mark = self.mark();
-        if mark == self.capacity() {
-            return Err(RaiseFault::Full);
-        }
-        if self.supply.power == 0 {
-            self.cells[mark] = self.supply.leftover;
+        let now = self.reading();
+        let mark = now.mark as usize;
+        if now.completes()? {
+            self.cells[mark] = 0;
+            self.supply.power -= 1;
+            Ok(now.mark)
+        } else {
+            self.cells[mark] = now.leftover;
             self.on = false;
-            return Err(RaiseFault::PowerFailed);
+            Err(RaiseFault::PowerFailed)
         }
-        self.cells[mark] = 0;
-        self.supply.power -= 1;
-        Ok(mark as u64)
     }
 
     // It leaves every cell as it was.

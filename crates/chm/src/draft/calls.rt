@@ -44,6 +44,7 @@ pub(crate) fn check_message_len(len: usize, more: usize, room: usize) -> Result<
 }
 
 impl Draft {
+    #[tactic(auto, unfolding(crate::specs::Words::held, polyhash::specs::Running::absorbed))]
     pub(crate) fn new<C: Permutation>(cipher: &C, nonce: u64, tag_len: u8) -> Draft
         ensures { result ≡ words_of (C.image cipher.now) nonce tag_len [] [] }
     {
@@ -52,11 +53,7 @@ impl Draft {
             nonce,
             tag_len,
             first: Keystream::new(cipher, nonce).block_of(0),
-            words: KeyWords {
-                len: 0,
-                veil: 0,
-                word: 0,
-            },
+            words: KeyWords::default(),
             body_hash: Running::new(body_key),
             head_len: 0,
             head_hash: Running::new(head_key),
@@ -118,7 +115,7 @@ fn tag_of(body_hash: u128, head_hash: u128, first: u128, tag_len: u8) -> [u8; 16
     ensures { result ≡ tag_then_zeros (tag_block body_hash head_hash first) tag_len }
 {
     let mut tag = method::tag_bytes(body_hash, head_hash, first);
-    tag[TAG_MOST.min(tag_len as usize)..].fill(0);
+    tag[TAG_MOST.min(usize::from(tag_len))..].fill(0);
     tag
 }
 
@@ -127,6 +124,6 @@ impl Sealed {
     pub fn tag(&self) -> &[u8]
         ensures { result.now ≡ take self.now.tag_len self.now.tag }
     {
-        &self.tag[..TAG_MOST.min(self.tag_len as usize)]
+        &self.tag[..TAG_MOST.min(usize::from(self.tag_len))]
     }
 }

@@ -8,6 +8,7 @@ use crate::draft::Draft;
 use crate::fault::BeginFault;
 use crate::sealer::Sealer;
 use ciphers::cipher::Permutation;
+use method::limits::is_tag_length;
 use stores::fault::RaiseFault;
 use stores::store::MarkStore;
 use stores::supply::Supply;
@@ -16,7 +17,7 @@ use stores::supply::Supply;
 pub(crate) fn check_tag_len(tag_len: u8) -> Result<(), BeginFault>
     ensures { answered begin_told result ≡ tag_answer tag_len }
 {
-    if tag_len < 12 || tag_len > 16 {
+    if !is_tag_length(usize::from(tag_len)) {
         return Err(BeginFault::TagLength);
     }
     Ok(())
@@ -49,11 +50,10 @@ impl<C: Permutation, S: MarkStore> Sealer<C, S> {
         ensures after { sealer_standing S.meaning self.new ≡ issued (sealer_standing S.meaning self.old) }
         ensures cipher { self.new.cipher ≡ self.old.cipher }
     {
-        if let Some(mut batch) = self.batch {
-            if let Some(nonce) = batch.next() {
-                self.batch = Some(batch);
-                return Ok(nonce);
-            }
+        if let Some(batch) = &mut self.batch
+            && let Some(nonce) = batch.next()
+        {
+            return Ok(nonce);
         }
         let raised = self.store.raise();
         if let Err(RaiseFault::PowerFailed) = raised {

@@ -9,6 +9,7 @@ use keystream::stream::xor_part;
 
 impl KeyWords {
     // The words for the next byte.
+    #[tactic(auto, unfolding(crate::specs::Words::turned))]
     fn turn<C: Permutation>(self, stream: &Keystream<'_, C>) -> KeyWords
         requires { self.len < 2 ^ 32 }
         ensures turns { result ≡ turned (C.image stream.now.cipher.now) stream.now.nonce self }
@@ -18,10 +19,11 @@ impl KeyWords {
             return self;
         }
         let index = 1 + self.len as u64 / 16;
-        let mut veil = self.veil;
-        if self.len == 0 || index % FRAME_BLOCKS == 0 {
-            veil = stream.mask_of((index / FRAME_BLOCKS) as u32);
-        }
+        let veil = if self.len == 0 || index % FRAME_BLOCKS == 0 {
+            stream.mask_of((index / FRAME_BLOCKS) as u32)
+        } else {
+            self.veil
+        };
         KeyWords {
             len: self.len,
             veil,

@@ -1,18 +1,8 @@
 -- A turn reads one digit more, or meets a character that is none.
-use Rattle.std.proofs.Common.{◌≡◌, ℕ, ◌+◌, ◌*◌, ◌^◌, ◌<◌, List, get_or, Some, sym, ◌∙◌, arith}
+use Rattle.std.proofs.Common.{◌≡◌, ℕ, ◌+◌, ◌*◌, ◌^◌, ◌<◌, List, get_or, Some, arith}
 use Rattle.digits.specs.Digits.{value_of}
-use Rattle.digits.proofs.Numbers.{value_lt, number_none, number_more, number_stops, number_of_accepts, more_bits, few_bits}
+use Rattle.digits.proofs.Numbers.{value_lt, number_more, more_bits, few_bits}
 use Rattle.digits.proofs.number.Goals as goal
-
-pub loop-c-init : goal.loop-c-init
-loop-c-init c = (sym number_none, omega arith)
-
-pub returns-in_err-value-clause-value : goal.returns-in_err-value-clause-value
-returns-in_err-value-clause-value c =
-    let cs = c.args.text.now in
-    c.from_residual.ensures
-    ∙ number_stops cs c.loop-c.c-index (omega arith) (sym c.in_err-value.was ∙ c.digit_value.ensures)
-    ∙ sym (number_of_accepts c.args.count cs (omega arith) (omega arith))
 
 -- what a turn makes of the sum fits
 next_fits : (cs : List ℕ) (i n d : ℕ) → i < 32 → n < 2 ^ (4 * i) → Some d ≡ value_of (get_or cs i 0) → n * 16 + d < 2 ^ 128

@@ -51,21 +51,16 @@ impl MarkStore for Register {
     }
 
     fn raise(&mut self) -> Result<u64, RaiseFault> {
-        if !self.on {
-            return Err(RaiseFault::PowerFailed);
-        }
-        let mark = self.mark;
-        if mark == REGISTER_CAPACITY {
-            return Err(RaiseFault::Full);
-        }
-        if self.supply.power == 0 {
-            self.mark = cut_mark(mark, self.supply.leftover);
+        let now = self.reading();
+        if now.completes()? {
+            self.mark += 1;
+            self.supply.power -= 1;
+            Ok(now.mark)
+        } else {
+            self.mark = cut_mark(now.mark, now.leftover);
             self.on = false;
-            return Err(RaiseFault::PowerFailed);
+            Err(RaiseFault::PowerFailed)
         }
-        self.mark = mark + 1;
-        self.supply.power -= 1;
-        Ok(mark)
     }
 
     fn restart(&mut self, supply: Supply) {

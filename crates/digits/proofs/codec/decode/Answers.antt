@@ -1,19 +1,10 @@
 -- A turn reads two digits and puts one byte more at the buffer's front.
-use Rattle.std.proofs.Common.{◌≡◌, ℕ, List, ◌++◌, map, take, drop, set, length, refl, sym, ap, ◌∙◌, arith}
+use Rattle.std.proofs.Common.{◌≡◌, ℕ, List, ◌++◌, map, take, drop, set, length, sym, ap, ◌∙◌, arith}
 use Rattle.std.proofs.lemmas.List.{set-get_or, length-map, length-drop}
 use Rattle.std.specs.Slice.Iter.{iter_rest}
 use Rattle.digits.specs.Hex.{unhex}
-use Rattle.digits.proofs.Hexes.{pair_value, unhex_pairs, first_left, front-more, front_all}
+use Rattle.digits.proofs.Hexes.{pair_value, first_left, front-more, front_all}
 use Rattle.digits.proofs.codec.decode.Goals as goal
-
-pub loop-byte-init : goal.loop-byte-init
-loop-byte-init c =
-    let text = c.args.text.now in
-    record {
-      filled = refl;
-      left = ap (map pair_value) (c.iter-pairs.ensures.rest ∙ c.as_chunks.ensures.front) ∙ unhex_pairs text _ refl;
-      within = omega arith;
-    }
 
 pub loop-byte-preserved : goal.loop-byte-preserved
 loop-byte-preserved c =

@@ -5,7 +5,7 @@ use Rattle.history.specs.Slots.{RoomFor}
 use Rattle.history.specs.declared.Call.{Call}
 use Rattle.history.proofs.calls.buffer_for.Goals as goal
 
-pub returns-in_ok-out-in-Body : goal.returns-in_ok-out-in-Body
-returns-in_ok-out-in-Body c =
-    let out = c.in_ok-out-in-Body.out in
-    subst (λ (k : Call). RoomFor (asked k) (Some out)) (sym c.in-Body.is) (out, refl, c.in_ok-out-in-Body.ensures.len)
+pub returns-in_ok-vec-in-Body : goal.returns-in_ok-vec-in-Body
+returns-in_ok-vec-in-Body c =
+    let out = c.in_ok-vec-in-Body.field-0 in
+    subst (λ (k : Call). RoomFor (asked k) (Some out)) (sym c.in-Body.is) (out, refl, c.in_ok-vec-in-Body.ensures.len)

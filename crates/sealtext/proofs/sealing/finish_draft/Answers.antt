@@ -9,7 +9,7 @@ returns g c =
     let h = c.args.header.now in
     let m = c.args.message.now in
     let k =
-    finished (g.C.BlockCipher.image c.args.cipher.now) c.args.draft.nonce h m c.args.ciphertext.now
+    finished (g.C.Permutation.image c.args.cipher.now) c.args.draft.nonce h m c.args.ciphertext.now
     c.args.draft c.head.new.self c.body.new.self c.finish.result c.body.new.out
     record {
       nonce = c.requires.nonce;

@@ -1,5 +1,5 @@
 -- The draft's tag and ciphertext are the published ones, and the output has room for the lines.
-use Rattle.std.proofs.Common.{arith}
+use Rattle.std.proofs.Common.{arith, rules}
 use Rattle.digits.proofs.Hexes.{length-unhex}
 use Rattle.digits.specs.Hex.{unhex}
 use Rattle.sealtext.proofs.Sheets.{sheet_written}
@@ -16,8 +16,8 @@ returns g c =
     let s = c.finish_draft-sealed in
     let w = c.write in
     let k =
-    sheet_written (g.C.BlockCipher.image c.args.cipher.now) c.args.draft.nonce (unhex c.args.header.now)
-    (unhex c.args.message.now) c.args.out.now c.requires.nonce c.requires.header c.requires.message c.requires.room
+    sheet_written (g.C.Permutation.image c.args.cipher.now) c.args.draft.nonce (unhex c.args.header.now)
+    (unhex c.args.message.now) c.args.out.now c.requires.nonce c.requires.header c.requires.message (search rules)
     s.result.nonce c.bytes_in-header.result.now c.bytes_in-message.result.now s.new.ciphertext s.result.tag
     s.ensures.nonce c.bytes_in-header.ensures c.bytes_in-message.ensures s.ensures.wrote s.ensures.tag
     w.result c.unwrap_or.result w.new.out w.ensures.answer c.unwrap_or.ensures w.ensures.wrote in

@@ -1,7 +1,0 @@
--- Past the end there is no draft, and nothing to change.
-use Rattle.std.proofs.Common.{rules}
-use Rattle.std.proofs.lemmas.List.{get_or_past, set_past}
-use Rattle.history.proofs.calls.finish_one.Goals as goal
-
-pub returns-then-n-len : goal.returns-then-n-len
-returns-then-n-len c = search (rules, get_or_past, set_past)
