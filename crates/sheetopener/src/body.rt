@@ -56,6 +56,7 @@ pub(crate) fn take_body(text: &[u8], out: &mut [u8])
 {
     let mut rest = text;
     let mut done = 0;
+    // No `split_at_mut` turn by turn: a loop's invariant cannot name what the parts before hold.
     for width in Frames::of(out.len()) {
         let (digits, others) = split_line(rest, width);
         decode(digits, &mut out[done..done + width]);

@@ -17,6 +17,7 @@ pub(crate) fn put_line(out: &mut [u8], at: usize, bytes: &[u8]) -> usize
     ensures next { result ≡ at + 2 * length bytes.now + 1 }
 {
     let mut end = at;
+    // No `chunks_exact_mut`: the library says nothing of the values that are written through one.
     for byte in bytes {
         out[end..end + 2].copy_from_slice(&digits_of(*byte));
         end += 2;
