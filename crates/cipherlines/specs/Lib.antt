@@ -1,3 +1,4 @@
 pub mod Chosen
 pub mod Permutes
+pub mod Printed
 pub mod Sessions

@@ -1,13 +1,17 @@
 ghost use Rattle.std.specs.Prelude.{◌≡◌, Some, MatchResult};
+ghost use Rattle.cipherlines.specs.Printed.{reply_text};
 ghost use Rattle.cipherlines.specs.Sessions.{session_state, reply_to, next_state, key_reply, after_key, keying, naming, enciphering};
 ghost use Rattle.cipherlines.specs.Chosen.{chosen_image};
 
 use crate::chosen::{Chosen, Name};
 use ciphers::cipher::Permutation;
 use ciphers::fault::KeyFault;
+use refusals::Refusal;
 use std::alloc::{AllocError, Global};
+use std::fmt;
 
-const BLOCK_DIGITS: usize = 32;
+// Two digits a byte.
+pub const BLOCK_DIGITS: usize = 32;
 
 // What a line is answered with.
 #[derive(Clone, Copy, Debug, PartialEq, Eq)]
@@ -20,6 +24,24 @@ pub enum Reply {
     Image { block: u128, image: u128 },
     // the line is empty: another cipher may be named
     Ended,
+}
+
+// As `cipher aes`, `made aes of the key`, `refused 7` and, for a block, `BLOCK becomes IMAGE`.
+impl fmt::Display for Reply {
+    ghost output = { reply_text };
+
+    fn fmt<W: fmt::Write>(&self, f: &mut fmt::Formatter<W>) -> fmt::Result {
+        match self {
+            Reply::Named(name) => write!(f, "cipher {name}"),
+            Reply::Keyed(Ok(name)) => write!(f, "made {name} of the key"),
+            Reply::Keyed(Err(fault)) => {
+                let number = fault.number();
+                write!(f, "refused {number}")
+            }
+            Reply::Image { block, image } => write!(f, "{block:032x} becomes {image:032x}"),
+            Reply::Ended => Ok(()),
+        }
+    }
 }
 
 #[derive(Clone, Copy)]

@@ -4,14 +4,13 @@ ghost use Rattle.exports.specs.Fronts.{fit_count, fit_front, Opened};
 ghost use Rattle.opentext.specs.Texts.{sheetopen_text};
 ghost use Rattle.sealtext.specs.Texts.{sheetseal_text};
 
+use sealtext::OUTPUT_BYTES;
 use std::alloc::Global;
 
 // What is returned for a buffer that is too small, and for want of memory: no output has so many bytes.
 const TOO_SMALL: usize = usize::MAX;
 
 const NO_MEMORY: usize = usize::MAX - 1;
-
-const SHEET_BYTES: usize = 65536;
 
 // Puts an output to the front of a buffer and tells how many bytes it has; one that does not fit leaves the buffer as it was.
 fn put_front(output: &[u8], out: &mut [u8]) -> usize
@@ -33,7 +32,7 @@ pub extern "C" fn navreluk_sheetseal(input: &[u8], out: &mut [u8]) -> usize
     ensures count { result ≡ fit_count (sheetseal_text (take 65536 input.now)) (length out.old) }
     ensures wrote { out.new ≡ fit_front (sheetseal_text (take 65536 input.now)) out.old }
 {
-    let mut output = [0; SHEET_BYTES];
+    let mut output = [0; OUTPUT_BYTES];
     let count = sealtext::sheetseal(input, &mut output);
     put_front(&output[0..count], out)
 }

@@ -7,14 +7,12 @@ ghost use Rattle.inputlines.specs.Lines.{parted_line, line_as};
 use cipherlines::chosen::Name;
 use digits::digit_value;
 
-const LINE_FEED: u8 = b'\n';
-
 // What stands before the first line feed of a text, and what stands behind it; `None` where it has no line feed.
 pub fn next_line(text: &[u8]) -> Option<(&[u8], &[u8])>
     ensures { MatchOption result (parted_line text.now ≡ None)
         (λ p. parted_line text.now ≡ Some (p.0.now, p.1.now)) }
 {
-    let end = text.iter().position(|c| *c == LINE_FEED)?;
+    let end = text.iter().position(|c| *c == b'\n')?;
     Some((&text[..end], &text[end + 1..]))
 }
 

@@ -6,6 +6,7 @@ ghost use Rattle.sheetlines.specs.Faults.{line_told, sheet_told};
 ghost use Rattle.sheetlines.specs.Lines.{line_of};
 ghost use Rattle.sheetlines.specs.declared.fault.SheetFault.TheVariants.{OutOfRange};
 ghost use Rattle.sheetopener.specs.Opens.{open_told};
+ghost use Rattle.sheetopener.specs.declared.fault.OpenFault.TheVariants.{BufferTooSmall};
 ghost use Rattle.opentext.specs.Texts.{told_line, refused_text};
 
 use checks::fault::CheckFault;
@@ -13,7 +14,7 @@ use ciphers::fault::KeyFault;
 use digits::codec::digits_of;
 use refusals::Refusal;
 use sheetlines::fault::{Field, LineFault, Place, SheetFault};
-use sheetopener::fault::OpenFault;
+use sheetopener::fault::{Buffer, OpenFault};
 use std::alloc::{AllocError, Global};
 
 // Appends bytes as a line of digits.
@@ -41,26 +42,18 @@ pub(crate) fn sheet_lines(
     Ok(out)
 }
 
-fn bytes_of(heap: Global, text: &str) -> Result<Vec<u8>, AllocError>
-    ensures { IfOk result (λ v. v.items ≡ text.now) }
-{
-    Vec::from_slice(heap, text.as_bytes())
-}
-
 // The line that tells the number of a bad line.
 pub(crate) fn bad_line(heap: Global, line: u8) -> Result<Vec<u8>, AllocError>
     ensures { IfOk result (λ v. v.items ≡ told_line (codes "bad line ") line []) }
 {
-    let text = format!(in heap; "bad line {line}\n")?;
-    bytes_of(heap, &text)
+    Ok(format!(in heap; "bad line {line}\n")?.into_bytes())
 }
 
 // The line that tells a refusal: its number, and what else it tells.
 fn refused_with(heap: Global, number: u8, values: &str) -> Result<Vec<u8>, AllocError>
     ensures { IfOk result (λ v. v.items ≡ told_line (codes "refused ") number values.now) }
 {
-    let text = format!(in heap; "refused {number}{values}\n")?;
-    bytes_of(heap, &text)
+    Ok(format!(in heap; "refused {number}{values}\n")?.into_bytes())
 }
 
 fn refused_in_line(heap: Global, fault: LineFault) -> Result<Vec<u8>, AllocError>
@@ -89,11 +82,12 @@ fn refused_sheet(heap: Global, fault: SheetFault) -> Result<Vec<u8>, AllocError>
     }
 }
 
-fn refused_buffer(heap: Global, which: u8) -> Result<Vec<u8>, AllocError>
-    ensures { IfOk result (λ v. v.items ≡ refused_text (8, which ∷ [])) }
+fn refused_buffer(heap: Global, buffer: Buffer) -> Result<Vec<u8>, AllocError>
+    ensures { IfOk result (λ v. v.items ≡ refused_text (open_told (BufferTooSmall buffer))) }
 {
+    let which = buffer as u8;
     let values = format!(in heap; " buffer {which}")?;
-    refused_with(heap, 8, &values)
+    refused_with(heap, OpenFault::BufferTooSmall(buffer).number(), &values)
 }
 
 fn refused_check(heap: Global, fault: CheckFault) -> Result<Vec<u8>, AllocError>
@@ -118,8 +112,7 @@ pub(crate) fn refused_open(heap: Global, fault: OpenFault) -> Result<Vec<u8>, Al
 {
     match fault {
         OpenFault::InSheet(fault) => refused_sheet(heap, fault),
-        OpenFault::HeaderBuffer => refused_buffer(heap, 1),
-        OpenFault::MessageBuffer => refused_buffer(heap, 2),
+        OpenFault::BufferTooSmall(buffer) => refused_buffer(heap, buffer),
         OpenFault::InSeal(fault) => refused_check(heap, fault),
     }
 }

@@ -1,15 +1,16 @@
 -- The lines of a sheet that an input is sealed to fit the output, so that writing them is not refused. Assumes nothing.
-use Rattle.std.proofs.Common.{◌≡◌, ℕ, ◌*◌, ◌^◌, ◌<◌, ◌≤◌, List, ◌++◌, length, drop, Ok, Err, Result, ap, ◌∙◌, arith}
+use Rattle.std.proofs.Common.{◌≡◌, ℕ, ◌*◌, ◌^◌, ◌<◌, ◌≤◌, List, ◌++◌, length, drop, Ok, Err, Result, refl, ap, ◌∙◌, arith}
+use Rattle.std.proofs.lemmas.Bool.{le-leb, lt-ltb}
 use Rattle.std.specs.Result.{result_unwrap_or}
 use Rattle.refusals.specs.Answers.{answered}
 use Rattle.method.proofs.Undone.{length-crypt, length-tag}
-use Rattle.method.specs.Limits.{header_limit}
+use Rattle.method.proofs.Kept.{Kept}
+use Rattle.method.specs.Limits.{header_limit, message_limit}
 use Rattle.method.specs.Published.{crypt, tag}
 use Rattle.sheetlines.proofs.Widths.{size_total, total-frames, length-frames}
 use Rattle.sheetlines.proofs.Sizes.{length-lines}
 use Rattle.sheetlines.specs.Lines.{lines_size}
 use Rattle.sheetlines.specs.Sheets.{first_frame, frames_of, lines_of}
-use Rattle.sheetwriter.proofs.Writes.{write_fits}
 use Rattle.sheetwriter.specs.Writes.{write_told, write_answer, written}
 use Rattle.sheetwriter.specs.declared.fault.WriteFault.{WriteFault}
 use Rattle.sealtext.specs.Inputs.{longest_message}
@@ -30,6 +31,14 @@ body_size k =
 value_of_ok : (r : Result ℕ WriteFault) (n : ℕ) → answered write_told r ≡ Ok n → result_unwrap_or r 0 ≡ n
 value_of_ok (Ok k) n e = cc
 value_of_ok (Err f) n e = absurd (let z : ◌≡◌ {A = ℕ} 0 1 = cc in omega arith)
+
+-- a sheet within the limits is written where there is room for its lines
+write_fits : (N : ℕ) (h c t : List ℕ) (room : ℕ) → Kept N (length h) (length c) (length t) → length (lines_of N h c t) ≤ room
+    → write_answer N h c t room ≡ Ok (length (lines_of N h c t))
+write_fits N h c t room k fits =
+    rw (le-leb 12 (length t) k.least, le-leb (length t) 16 k.most, lt-ltb N (2 ^ 63) k.nonce, le-leb (length h) header_limit k.header,
+      le-leb (length c) message_limit k.message, le-leb (length (lines_of N h c t)) room fits)
+    refl
 
 -- the whole text is far below the output's 65,536 bytes
 sheet_small : (E : ℕ → ℕ) (N : ℕ) (h m : List ℕ) → N < 2 ^ 63 → length h ≤ header_limit → length m ≤ longest_message

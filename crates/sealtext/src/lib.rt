@@ -17,7 +17,8 @@ mod text;
 // What lies behind so many bytes of an input does not exist.
 const INPUT_LIMIT: usize = 65536;
 
-const OUTPUT_BYTES: usize = 65536;
+// No output is longer.
+pub const OUTPUT_BYTES: usize = 65536;
 
 // Answers a text: the lines of the sheet that it is sealed to, or one line that tells a bad line or a refusal.
 fn answer(text: &[u8], out: &mut [u8; OUTPUT_BYTES]) -> usize

@@ -22,6 +22,7 @@ use ciphers::cipher::Permutation;
 use ciphers::fault::KeyFault;
 use digits::codec::decode;
 use method::limits::HEADER_LIMIT;
+use method::sheet::Sheet;
 use sheetwriter::write;
 use stores::register::Register;
 use stores::store::UNWRITTEN;
@@ -120,7 +121,13 @@ fn write_sheet<C: Permutation>(
     let message = bytes_in(message, &mut message_room);
     let ciphertext = &mut cipher_room[..message.len()];
     let sealed = finish_draft(draft, cipher, header, message, ciphertext);
-    write(sealed.nonce, header, ciphertext, &sealed.tag, out).unwrap_or(0)
+    let sheet = Sheet {
+        nonce: sealed.nonce,
+        header,
+        ciphertext,
+        tag: &sealed.tag,
+    };
+    write(&sheet, out).unwrap_or(0)
 }
 
 // Seals what the lines tell, and writes the sheet's lines to the front of an output. A key of the wrong length is refused as 7, a

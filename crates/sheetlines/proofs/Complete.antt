@@ -1,18 +1,18 @@
 -- Lines are read without a fault, as the bytes that they are of: one line, lines one after another, line 1, and a whole sheet. Assumes nothing.
-use Rattle.std.proofs.Common.{◌≡◌, ℕ, zero, suc, ◌+◌, ◌*◌, ◌^◌, ◌<◌, ◌≤◌, ltb, leb, List, [], ◌∷◌, ◌++◌, length, take, drop, None, Ok, Option, sym, refl, ap, ◌∙◌, mod-eq_of_lt, arith}
+use Rattle.std.proofs.Common.{◌≡◌, ℕ, zero, suc, ◌+◌, ◌*◌, ◌^◌, ◌<◌, ◌≤◌, ltb, List, [], ◌∷◌, ◌++◌, length, take, drop, None, Ok, Option, sym, refl, ap, ◌∙◌, mod-eq_of_lt, arith}
 use Rattle.std.proofs.lemmas.List.{append_assoc, append-nil, take-append-drop, drop-drop, take_at, drop_at, length-take-le, length-drop}
-use Rattle.std.proofs.lemmas.Bool.{cond-true, cond-false, and_from, le-leb, lt-ltb, le-ltb}
+use Rattle.std.proofs.lemmas.Bool.{cond-true, cond-false, le-ltb}
 use Rattle.blocks.specs.Blocks.{AllBytes, number, bytes_of}
 use Rattle.blocks.proofs.Bytes.{bytes_append, bytes_take, bytes_drop}
 use Rattle.blocks.proofs.Numbers.{bytes_of_bytes, length-bytes_of, number-bytes_of}
 use Rattle.digits.specs.Hex.{is_digit, hex, unhex}
 use Rattle.digits.proofs.Hexes.{Digital, length-hex, hex_digital, unhex-hex}
-use Rattle.method.specs.Limits.{header_limit, message_limit, tag_fits, nonce_fits}
 use Rattle.sheetlines.specs.Laws.{sheet_fields, Within, ReadBack}
 use Rattle.sheetlines.specs.Lines.{feed, line_of, lines_size, fault_in, or_else, lines_fault, bytes_in}
 use Rattle.sheetlines.specs.Sheets.{frames_of, body_lines, first_bytes, lines_of, fields, fields_told, first_digits, fields_of, field_fault, widths, header_at, cipher_at, tag_at, at_end, at_rest, at_first, sheet_answer}
 use Rattle.sheetlines.specs.declared.fault.LineFault.{LineFault}
 use Rattle.sheetlines.specs.declared.fields.Fields.{Fields}
+use Rattle.sheetlines.proofs.Ranges.{no_fault}
 use Rattle.sheetlines.proofs.Widths.{total, total_frames_of, none_both}
 use Rattle.sheetlines.proofs.Sizes.{length_line, length-first_bytes, length-lines-widths}
 
@@ -123,13 +123,6 @@ fields_complete N m h t hN hm hh ht =
 
 -- ## The whole
 
-in_range : (N m h t : ℕ) → N < 2 ^ 63 → m ≤ message_limit → h ≤ header_limit → 12 ≤ t → t ≤ 16 → field_fault (fields N m h t) ≡ None
-in_range N m h t a b c d e =
-    cond-true (nonce_fits N) _ _ (lt-ltb N (2 ^ 63) a)
-    ∙ cond-true (leb m message_limit) _ _ (le-leb m message_limit b)
-    ∙ cond-true (leb h header_limit) _ _ (le-leb h header_limit c)
-    ∙ cond-true (tag_fits t) _ _ (and_from (leb 12 t) (leb t 16) (le-leb 12 t d) (le-leb t 16 e))
-
 answered : (text : List ℕ) (f : Fields) → fault_in 1 1 first_digits text ≡ None → fields_of text ≡ f → field_fault f ≡ None
     → lines_fault 2 (widths f) (drop header_at text) ≡ None → length text ≤ header_at + lines_size (widths f) → sheet_answer text ≡ Ok f
 answered text f first is ranges rest end =
@@ -171,7 +164,7 @@ read_back N h c t w =
     -- and nothing follows the tag's line
     let size = length-lines-widths N h c t in
     record {
-      answer = answered text f one.fault told (in_range N m x y w.nonce w.message w.header w.least w.most) rest-fault (omega arith);
+      answer = answered text f one.fault told (no_fault f (record { nonce = w.nonce; message = w.message; header = w.header; least = w.least; most = w.most })) rest-fault (omega arith);
       header = ap (λ (v : List ℕ). unhex (take (2 * x) v)) one.after ∙ two.bytes;
       cipher = ap (bytes_in fr) at-cipher ∙ three.bytes;
       tag = ap (λ (v : List ℕ). unhex (take (2 * y) v)) (at_tag ∙ sym nil) ∙ four.bytes;

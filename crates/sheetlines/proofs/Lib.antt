@@ -1,5 +1,6 @@
 pub mod Complete
-pub mod Widths
 pub mod Proved
+pub mod Ranges
 pub mod Sizes
 pub mod Sound
+pub mod Widths

@@ -1,14 +1,12 @@
 -- What is read without a fault is lines: one line, lines one after another, line 1, and a whole text. Assumes nothing.
-use Rattle.std.proofs.Common.{◌≡◌, ℕ, zero, suc, ◌+◌, ◌*◌, ◌^◌, ◌<◌, ◌≤◌, Bool, true, false, cond, eqb, ltb, List, [], ◌∷◌, ◌++◌, length, take, drop, Some, None, Ok, Err, Option, Result, sym, refl, ap, ◌∙◌, subst, arith}
+use Rattle.std.proofs.Common.{◌≡◌, ℕ, zero, suc, ◌+◌, ◌*◌, ◌≤◌, Bool, true, false, cond, eqb, ltb, List, [], ◌∷◌, ◌++◌, length, take, drop, Some, None, Ok, Err, Option, Result, sym, refl, ap, ◌∙◌, subst, arith}
 use Rattle.std.proofs.lemmas.List.{append_assoc, append-nil, take-append-drop, drop-drop, take_at, drop_at, length-append, length-take-le, length-drop, drop_all}
 use Rattle.std.proofs.lemmas.Bool.{eqb-true, ltb-false}
-use Rattle.std.proofs.lemmas.Bool.Decides.{nat_tests}
 use Rattle.blocks.specs.Blocks.{AllBytes, number, bytes_of}
 use Rattle.blocks.proofs.Bytes.{bytes_append, bytes_take, bytes_drop}
 use Rattle.blocks.proofs.Numbers.{bytes_of-number}
 use Rattle.digits.specs.Hex.{is_digit, hex, unhex}
 use Rattle.digits.proofs.Hexes.{Digital, hex-unhex, unhex_bytes}
-use Rattle.method.specs.Limits.{header_limit, message_limit}
 use Rattle.sheetlines.specs.Laws.{Parts}
 use Rattle.sheetlines.specs.Lines.{feed, line_of, lines_size, place, fault_in, lines_fault, bytes_in}
 use Rattle.sheetlines.specs.Sheets.{frames_of, body_lines, first_bytes, lines_of, fields_told, first_digits, fields_of, field_fault, widths, header_at, cipher_at, tag_at, at_end, at_rest, at_first, sheet_answer, header_of, cipher_of, tag_of}
@@ -18,6 +16,7 @@ use Rattle.sheetlines.specs.declared.fault.LineFault.TheVariants.{NoDigit, Wrong
 use Rattle.sheetlines.specs.declared.fault.SheetFault.{SheetFault}
 use Rattle.sheetlines.specs.declared.fault.SheetFault.TheVariants.{MoreBytes}
 use Rattle.sheetlines.specs.declared.fields.Fields.{Fields}
+use Rattle.sheetlines.proofs.Ranges.{in_range}
 use Rattle.sheetlines.proofs.Widths.{total, total_frames_of, size_append, none_both, fault_append}
 
 none_some : {X : Type 0} {e : LineFault} → Some e ≡ None → X
@@ -175,22 +174,6 @@ module _ (text : List ℕ) (f : Fields) where
       subst (λ (x : Fields). Read text x) ended.1
       (record { first = first; is = refl; ranges = ranges; rest = rest; end = ltb-false size (length text) ended.0 })
 
-record Limited (f : Fields) : Type 0 where
-  nonce : f.nonce < 2 ^ 63
-  message : f.message_len ≤ message_limit
-  header : f.header_len ≤ header_limit
-  least : 12 ≤ f.tag_len
-  most : f.tag_len ≤ 16
-
-limited : (f : Fields) → field_fault f ≡ None → Limited f
-limited f h = record {
-  nonce = grind (arith, nat_tests);
-  message = grind (arith, nat_tests);
-  header = grind (arith, nat_tests);
-  least = grind (arith, nat_tests);
-  most = grind (arith, nat_tests);
-}
-
 -- line 1 may tell the parts' lengths in place of the fields
 as_lengths : (f : Fields) (h c t : List ℕ) → length h ≡ f.header_len → length c ≡ f.message_len → length t ≡ f.tag_len
     → line_of (told f) ++ (line_of h ++ (body_lines (frames_of f.message_len) c ++ line_of t)) ≡ lines_of f.nonce h c t
@@ -231,7 +214,7 @@ canonical text f answer =
     let eh : length H ≡ h = header-line.1 in
     let ec : length C ≡ m = cipher-lines.1 ∙ total_frames_of m in
     let et : length T ≡ t = tag-line.1 in
-    let inside = limited f r.ranges in
+    let inside = in_range f r.ranges in
     record {
       lines = first ∙ ap (λ (v : List ℕ). line_of (told f) ++ v)
           (header-line.0 ∙ ap (λ (v : List ℕ). line_of H ++ v) (y ∙ cipher-lines.0 ∙ ap (λ (v : List ℕ). body_lines fr C ++ v) (z ∙ last)))

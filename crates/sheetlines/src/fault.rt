@@ -20,13 +20,13 @@ pub enum LineFault {
     WrongEnd(Place),
 }
 
-// The fields of line 1, in their order.
+// The fields of line 1, by their places in it.
 #[derive(Clone, Copy, Debug, PartialEq, Eq)]
 pub enum Field {
-    Nonce,
-    MessageLength,
-    HeaderLength,
-    TagLength,
+    Nonce = 1,
+    MessageLength = 2,
+    HeaderLength = 3,
+    TagLength = 4,
 }
 
 // Why a text is not the lines of a sheet.
@@ -66,12 +66,7 @@ impl Field {
     pub fn place(self) -> u8
         ensures { result ≡ field_number self }
     {
-        match self {
-            Field::Nonce => 1,
-            Field::MessageLength => 2,
-            Field::HeaderLength => 3,
-            Field::TagLength => 4,
-        }
+        self as u8
     }
 }
 

@@ -1,11 +1,10 @@
 -- Where the parts of a text stand that was read as a sheet. Assumes nothing.
-use Rattle.std.proofs.Common.{◌≡◌, ℕ, ◌+◌, ◌-◌, ◌*◌, ◌^◌, ◌<◌, ◌≤◌, List, ◌++◌, length, drop, Ok, ap, ◌∙◌, arith}
-use borrow.Rule.Slice.PartMut.{post_of}
+use Rattle.std.proofs.Common.{◌≡◌, ℕ, ◌+◌, ◌*◌, ◌^◌, ◌<◌, ◌≤◌, List, ◌++◌, length, drop, Ok, sym, ap, ◌∙◌, arith}
 use Rattle.method.specs.Limits.{header_limit, message_limit}
 use Rattle.sheetlines.proofs.Proved.{line_laws}
 use Rattle.sheetlines.proofs.Sizes.{length-lines}
-use Rattle.sheetlines.specs.Lines.{lines_size, bytes_in}
-use Rattle.sheetlines.specs.Sheets.{header_at, cipher_at, tag_at, frames_of, sheet_answer, header_of, cipher_of, tag_of}
+use Rattle.sheetlines.specs.Lines.{lines_size}
+use Rattle.sheetlines.specs.Sheets.{tag_at, frames_of, sheet_answer, header_of, cipher_of, tag_of}
 use Rattle.sheetlines.specs.declared.fields.Fields.{Fields}
 use Rattle.sheetopener.specs.Opens.{at_front}
 
@@ -42,15 +41,6 @@ placed text f e =
       tag_long = t;
     }
 
--- where the ciphertext's line and the tag's line begin, as the code counts
-pub cipher-told : (f : Fields) (text : List ℕ) (m : ℕ) → m ≡ f.message_len
-    → bytes_in (frames_of m) (drop (header_at + 2 * f.header_len + 1) text) ≡ cipher_of f text
-cipher-told f text m e =
-    let at : header_at + 2 * f.header_len + 1 ≡ cipher_at f = omega arith in
-    ap (λ k. bytes_in (frames_of m) (drop k text)) at ∙ ap (λ n. bytes_in (frames_of n) (drop (cipher_at f) text)) e
-
 -- a buffer whose front was filled
-pub fronted : (xs ys out : List ℕ) (n : ℕ) → xs ≡ ys → length ys ≡ n → xs ++ post_of 0 (n - 0) out ≡ at_front ys out
-fronted xs ys out n e l =
-    let k : n - 0 ≡ length ys = omega arith in
-    ap (λ (zs : List ℕ). zs ++ drop (n - 0) out) e ∙ ap (λ j. ys ++ drop j out) k
+pub fronted : (xs ys out : List ℕ) (n : ℕ) → xs ≡ ys → length ys ≡ n → xs ++ drop n out ≡ at_front ys out
+fronted xs ys out n e l = (λ i. e i ++ drop (sym l i) out)

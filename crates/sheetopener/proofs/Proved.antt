@@ -4,17 +4,17 @@ use Rattle.std.proofs.lemmas.List.{take_at}
 use Rattle.std.proofs.lemmas.Bool.{cond-false, le-ltb}
 use Rattle.blocks.specs.Blocks.{AllBytes}
 use Rattle.checks.specs.Checks.{check_answer}
-use Rattle.method.specs.Limits.{header_limit, message_limit, tag_fits, nonce_fits}
+use Rattle.method.proofs.Kept.{passed, limits_kept}
 use Rattle.method.specs.Published.{crypt, tag}
 use Rattle.sheetlines.proofs.Proved.{line_laws, unlike}
 use Rattle.sheetlines.specs.Laws.{sheet_fields}
 use Rattle.sheetlines.specs.Sheets.{lines_of, header_of, cipher_of, tag_of}
 use Rattle.sheetlines.specs.declared.fields.Fields.{Fields}
-use Rattle.sheetopener.proofs.Accepted.{passed, accepted, within, one-cipher}
+use Rattle.sheetopener.proofs.Accepted.{accepted, within, one-cipher}
 use Rattle.sheetopener.proofs.Opened.{opened}
 use Rattle.sheetopener.specs.Laws.{OpensTo, OpenLaws}
 use Rattle.sheetopener.specs.Opens.{if_checked, open_read, open_answer}
-use Rattle.sheetwriter.specs.Writes.{write_answer, written}
+use Rattle.sheetwriter.specs.Writes.{write_too_small, sized, write_answer, written}
 
 -- the lines are read back, the buffers are long enough, and check gets what it accepts
 opens_is : (E : ℕ → ℕ) (hs ms N : ℕ) (h c t : List ℕ) → AllBytes h → AllBytes c → AllBytes t → check_answer E N h c t ≡ Ok tt
@@ -51,18 +51,16 @@ one_text_is E text text' hs ms hs' ms' f a a' h m =
     let o' = opened E text' hs' ms' f a' in
     let s = accepted E N (header_of f text) (cipher_of f text) (tag_of f text) o.genuine in
     let s' = accepted E N (header_of f text') (cipher_of f text') (tag_of f text') o'.genuine in
-    let c = one-cipher E N (cipher_of f text) (cipher_of f text') s.nonce s.message s'.message m in
+    let c = one-cipher E N (cipher_of f text) (cipher_of f text') s.kept.nonce s.kept.message s'.kept.message m in
     let l = (line_laws.canonical text f o.read).tag ∙ sym (line_laws.canonical text' f o'.read).tag in
     unlike text text' f f o.read o'.read refl h c (sym s.genuine ∙ (λ i. tag E (l i) N (h i) (c i)) ∙ s'.genuine)
 
 -- what write answers is how long the lines are
 count_is : (N n room : ℕ) (h c t : List ℕ) → write_answer N h c t room ≡ Ok n → length (lines_of N h c t) ≡ n
 count_is N n room h c t w =
-    let tags = passed (tag_fits (length t)) _ _ n w in
-    let nonces = passed (nonce_fits N) _ _ n tags.1 in
-    let headers = passed (leb (length h) header_limit) _ _ n nonces.1 in
-    let messages = passed (leb (length c) message_limit) _ _ n headers.1 in
-    let sized : Ok (length (lines_of N h c t)) ≡ Ok n = (passed (leb (length (lines_of N h c t)) room) _ _ n messages.1).1 in
+    let size = length (lines_of N h c t) in
+    let kept = limits_kept N (length h) (length c) (length t) (sized size room) n w in
+    let is : Ok size ≡ Ok n = (passed (leb size room) (Ok size) write_too_small n kept.1).1 in
     cc
 
 -- the front that write answers is the lines

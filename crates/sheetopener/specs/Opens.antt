@@ -10,8 +10,9 @@ use Rattle.sheetlines.specs.Faults.{sheet_told}
 use Rattle.sheetlines.specs.Sheets.{sheet_answer, header_of, cipher_of, tag_of}
 use Rattle.sheetlines.specs.declared.fault.SheetFault.{SheetFault}
 use Rattle.sheetlines.specs.declared.fields.Fields.{Fields}
+use Rattle.sheetopener.specs.declared.fault.Buffer.TheVariants.{Header, Message}
 use Rattle.sheetopener.specs.declared.fault.OpenFault.{OpenFault}
-use Rattle.sheetopener.specs.declared.fault.OpenFault.TheVariants.{InSheet, HeaderBuffer, MessageBuffer, InSeal}
+use Rattle.sheetopener.specs.declared.fault.OpenFault.TheVariants.{InSheet, BufferTooSmall, InSeal}
 
 -- refusal 8: a buffer is too small; it tells 1 for the header's and 2 for the message's
 abbrev pub header_buffer_small : Told
@@ -22,8 +23,8 @@ message_buffer_small = (8, 2 ∷ [])
 
 abbrev pub open_told : OpenFault → Told
 open_told (InSheet f) = sheet_told f
-open_told HeaderBuffer = header_buffer_small
-open_told MessageBuffer = message_buffer_small
+open_told (BufferTooSmall Header) = header_buffer_small
+open_told (BufferTooSmall Message) = message_buffer_small
 open_told (InSeal f) = check_told f
 
 -- check has the last word

@@ -8,55 +8,58 @@ ghost use Rattle.sheetlines.specs.Sheets.{frames_of};
 use digits::codec::decode;
 use polyhash::running::Running;
 use polyhash::running::calls::hash_of;
-use sheetlines::layout::{FIRST_FRAME, LATER_FRAME};
+use sheetlines::frames::Frames;
+use sheetlines::layout::LATER_FRAME;
 
-// The hash of the bytes that one line tells.
-pub(crate) fn hash_line(key: u128, text: &[u8], at: usize, width: usize) -> u128
-    requires short { width ≤ 4096 }
-    requires within { at + 2 * width ≤ length text.now }
-    ensures { result ≡ hash key (unhex (take (2 * width) (drop at text.now))) }
+// The digits of a line that tells so many bytes, and what follows the line.
+pub(crate) fn split_line(text: &[u8], width: usize) -> (&[u8], &[u8])
+    requires { 2 * width + 1 ≤ length text.now }
+    ensures digits { result.0.now ≡ take (2 * width) text.now }
+    ensures others { result.1.now ≡ drop (2 * width + 1) text.now }
+{
+    (&text[..2 * width], &text[2 * width + 1..])
+}
+
+// The hash of the bytes that one line's digits tell.
+pub(crate) fn hash_line(key: u128, digits: &[u8]) -> u128
+    requires { length digits.now ≤ 8192 }
+    ensures { result ≡ hash key (unhex digits.now) }
 {
     let mut line = [0; LATER_FRAME];
-    let part = &mut line[0..width];
-    decode(&text[at..at + 2 * width], part);
+    let part = &mut line[..digits.len() / 2];
+    decode(digits, part);
     hash_of(key, part)
 }
 
-// The hash of the ciphertext that its lines tell, which begin at `start`.
-pub(crate) fn hash_body(key: u128, text: &[u8], start: usize, message_len: usize) -> u128
-    requires { start + lines_size (frames_of message_len) ≤ length text.now }
-    ensures { result ≡ hash key (bytes_in (frames_of message_len) (drop start text.now)) }
+// The hash of a ciphertext that a text's first lines tell.
+pub(crate) fn hash_body(key: u128, text: &[u8], message_len: usize) -> u128
+    requires { lines_size (frames_of message_len) ≤ length text.now }
+    ensures { result ≡ hash key (bytes_in (frames_of message_len) text.now) }
 {
-    let mut running = Running::new();
+    let mut running = Running::new(key);
     let mut line = [0; LATER_FRAME];
-    let mut at = start;
-    let mut left = message_len;
-    let mut room = FIRST_FRAME;
-    while left > 0 {
-        let width = left.min(room);
-        let part = &mut line[0..width];
-        decode(&text[at..at + 2 * width], part);
-        running.absorb(key, part);
-        at += 2 * width + 1;
-        left -= width;
-        room = LATER_FRAME;
+    let mut rest = text;
+    for width in Frames::of(message_len) {
+        let (digits, others) = split_line(rest, width);
+        let part = &mut line[..width];
+        decode(digits, part);
+        running.absorb(part);
+        rest = others;
     }
-    running.finish(key)
+    running.finish()
 }
 
-// Fills a buffer with the ciphertext that its lines tell, which begin at `start`.
-pub(crate) fn take_body(text: &[u8], start: usize, out: &mut [u8])
-    requires { start + lines_size (frames_of (length out.old)) ≤ length text.now }
-    ensures { out.new ≡ bytes_in (frames_of (length out.old)) (drop start text.now) }
+// Fills a buffer with a ciphertext that a text's first lines tell.
+pub(crate) fn take_body(text: &[u8], out: &mut [u8])
+    requires { lines_size (frames_of (length out.old)) ≤ length text.now }
+    ensures { out.new ≡ bytes_in (frames_of (length out.old)) text.now }
 {
-    let mut at = start;
+    let mut rest = text;
     let mut done = 0;
-    let mut room = FIRST_FRAME;
-    while done < out.len() {
-        let width = (out.len() - done).min(room);
-        decode(&text[at..at + 2 * width], &mut out[done..done + width]);
-        at += 2 * width + 1;
+    for width in Frames::of(out.len()) {
+        let (digits, others) = split_line(rest, width);
+        decode(digits, &mut out[done..done + width]);
         done += width;
-        room = LATER_FRAME;
+        rest = others;
     }
 }

@@ -6,15 +6,20 @@ use checks::fault::CheckFault;
 use refusals::Refusal;
 use sheetlines::fault::SheetFault;
 
+// The buffers that are filled, by their numbers in a refusal.
+#[derive(Clone, Copy, Debug, PartialEq, Eq)]
+pub enum Buffer {
+    Header = 1,
+    Message = 2,
+}
+
 // Why lines were not opened.
-#[derive(Clone, Copy)]
+#[derive(Clone, Copy, Debug, PartialEq, Eq)]
 pub enum OpenFault {
     // the text is not the lines of a sheet
     InSheet(SheetFault),
-    // the header does not fit its buffer
-    HeaderBuffer,
-    // the message does not fit its buffer
-    MessageBuffer,
+    // what a buffer is for does not fit it
+    BufferTooSmall(Buffer),
     // check does not accept the sheet
     InSeal(CheckFault),
 }
@@ -41,8 +46,7 @@ impl Refusal for OpenFault {
     fn number(&self) -> u8 {
         match self {
             OpenFault::InSheet(fault) => fault.number(),
-            OpenFault::HeaderBuffer => 8,
-            OpenFault::MessageBuffer => 8,
+            OpenFault::BufferTooSmall(_) => 8,
             OpenFault::InSeal(fault) => fault.number(),
         }
     }

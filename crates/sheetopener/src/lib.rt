@@ -4,3 +4,4 @@
 mod body;
 pub mod fault;
 pub mod open;
+mod read;

@@ -1,31 +1,13 @@
 -- What reading a whole text answers, case by case: what was found in line 1, in the lines after it, and after them. Assumes nothing.
-use Rattle.std.proofs.Common.{◌≡◌, ℕ, ◌+◌, ◌-◌, ◌^◌, ◌<◌, ◌≤◌, ltb, List, length, drop, Some, None, Ok, Err, sym, ap, ◌∙◌, arith}
+use Rattle.std.proofs.Common.{◌≡◌, ℕ, ◌+◌, ◌-◌, ◌<◌, ltb, List, length, drop, Some, None, Ok, Err, sym, ap, ◌∙◌, arith}
 use Rattle.std.proofs.lemmas.List.{drop-drop, length-drop}
 use Rattle.std.proofs.lemmas.Bool.{cond-true, cond-false, lt-ltb, le-ltb}
-use Rattle.std.proofs.lemmas.Bool.Decides.{nat_tests}
-use Rattle.method.specs.Limits.{header_limit, message_limit}
 use Rattle.sheetlines.specs.Lines.{lines_size, fault_in, lines_fault}
 use Rattle.sheetlines.specs.Sheets.{first_digits, fields_of, field_fault, widths, header_at, at_end, at_rest, at_first, sheet_answer}
 use Rattle.sheetlines.specs.declared.fault.Field.{Field}
 use Rattle.sheetlines.specs.declared.fault.LineFault.{LineFault}
 use Rattle.sheetlines.specs.declared.fault.SheetFault.TheVariants.{InLine, OutOfRange, MoreBytes}
 use Rattle.sheetlines.specs.declared.fields.Fields.{Fields}
-
-pub record InRange (f : Fields) : Type 0 where
-  pub nonce : f.nonce < 2 ^ 63
-  pub message : f.message_len ≤ message_limit
-  pub header : f.header_len ≤ header_limit
-  pub least : 12 ≤ f.tag_len
-  pub most : f.tag_len ≤ 16
-
-pub in_range : (f : Fields) → field_fault f ≡ None → InRange f
-in_range f h = record {
-  nonce = grind (arith, nat_tests);
-  message = grind (arith, nat_tests);
-  header = grind (arith, nat_tests);
-  least = grind (arith, nat_tests);
-  most = grind (arith, nat_tests);
-}
 
 -- line 1 has a fault
 pub first_faulty : (text : List ℕ) (e : LineFault) → fault_in 1 1 first_digits text ≡ Some e → Err (InLine e) ≡ sheet_answer text

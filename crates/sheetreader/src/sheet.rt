@@ -6,7 +6,7 @@ ghost use Rattle.sheetlines.specs.Sheets.{first_digits, fields_of, field_fault, 
 
 use crate::line::Lines;
 use digits::codec::decode;
-use method::limits::{HEADER_LIMIT, MESSAGE_LIMIT, NONCE_END, TAG_LEAST, TAG_MOST};
+use method::limits::{HEADER_LIMIT, MESSAGE_LIMIT, NONCE_END, is_tag_length};
 use sheetlines::fault::{Field, LineFault, SheetFault};
 use sheetlines::fields::Fields;
 use sheetlines::frames::Frames;
@@ -52,7 +52,7 @@ fn out_of_range(fields: Fields) -> Option<Field>
     if fields.header_len > HEADER_LIMIT {
         return Some(Field::HeaderLength);
     }
-    if !(TAG_LEAST..=TAG_MOST).contains(&fields.tag_len) {
+    if !is_tag_length(fields.tag_len) {
         return Some(Field::TagLength);
     }
     None

@@ -1,10 +1,8 @@
 // Seals a sheet of five lines: docs/sheetseal.md has what it reads and prints.
 #![tactic(auto)]
 
-use sealtext::sheetseal;
+use sealtext::{OUTPUT_BYTES, sheetseal};
 use std::io::{Read, Write};
-
-const OUTPUT_BYTES: usize = 65536;
 
 fn run(rt: &HostRuntime) -> anyhow::Result<()> {
     let mut input = Vec::new(rt.alloc());

@@ -1,20 +1,25 @@
+ghost use Rattle.std.specs.Prelude.{◌≡◌};
 ghost use Rattle.sheetwriter.specs.Writes.{write_told};
+ghost use Rattle.sheetwriter.specs.declared.fault.WriteFault.TheVariants.{Limit};
 
+use method::limits::LimitFault;
 use refusals::Refusal;
 
 // Why the lines of a sheet were not written.
 #[derive(Clone, Copy, Debug, PartialEq, Eq)]
 pub enum WriteFault {
-    // the tag's length is outside 12 to 16
-    TagLength,
-    // the nonce is 2^63 or more
-    Nonce,
-    // the header passes 4,096 bytes
-    HeaderTooLong,
-    // the ciphertext passes 1,048,576 bytes
-    MessageTooLong,
+    // a limit that the sheet does not keep
+    Limit(LimitFault),
     // the lines do not fit the buffer
     BufferTooSmall,
+}
+
+impl From<LimitFault> for WriteFault {
+    ghost from_gives = { λ e r. r ≡ Limit e };
+
+    fn from(e: LimitFault) -> WriteFault {
+        WriteFault::Limit(e)
+    }
 }
 
 impl Refusal for WriteFault {
@@ -22,10 +27,7 @@ impl Refusal for WriteFault {
 
     fn number(&self) -> u8 {
         match self {
-            WriteFault::TagLength => 4,
-            WriteFault::Nonce => 5,
-            WriteFault::HeaderTooLong => 1,
-            WriteFault::MessageTooLong => 2,
+            WriteFault::Limit(fault) => fault.number(),
             WriteFault::BufferTooSmall => 8,
         }
     }

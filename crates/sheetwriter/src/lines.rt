@@ -1,11 +1,12 @@
 // Lines put into a buffer one after another.
-ghost use Rattle.std.specs.Prelude.{◌≡◌, ◌+◌, ◌*◌, ◌≤◌, length};
-ghost use Rattle.method.specs.Limits.{header_limit, message_limit};
+ghost use Rattle.std.specs.Prelude.{◌≡◌, ◌+◌, ◌*◌, ◌≤◌, length, None};
+ghost use Rattle.method.specs.Limits.{message_limit};
 ghost use Rattle.sheetlines.specs.Lines.{line_of, lines_size};
-ghost use Rattle.sheetlines.specs.Sheets.{header_at, frames_of, body_lines};
+ghost use Rattle.sheetlines.specs.Sheets.{field_fault, widths, header_at, frames_of, body_lines};
 ghost use Rattle.sheetwriter.specs.Puts.{put};
 
 use digits::codec::digits_of;
+use sheetlines::fields::Fields;
 use sheetlines::frames::Frames;
 use sheetlines::layout::HEADER_AT;
 
@@ -34,13 +35,14 @@ fn body_size(message_len: usize) -> usize
 }
 
 // How many bytes the lines of a sheet have.
-pub(crate) fn sheet_size(header_len: usize, message_len: usize, tag_len: usize) -> usize
-    requires header { header_len ≤ header_limit }
-    requires message { message_len ≤ message_limit }
-    requires tag { tag_len ≤ 16 }
-    ensures { result ≡ header_at + (2 * header_len + 1) + lines_size (frames_of message_len) + (2 * tag_len + 1) }
+pub(crate) fn sheet_size(fields: Fields) -> usize
+    requires { field_fault fields ≡ None }
+    ensures { result ≡ header_at + lines_size (widths fields) }
 {
-    HEADER_AT + (2 * header_len + 1) + body_size(message_len) + (2 * tag_len + 1)
+    HEADER_AT
+        + (2 * fields.header_len + 1)
+        + body_size(fields.message_len)
+        + (2 * fields.tag_len + 1)
 }
 
 // Puts the lines of a ciphertext, a frame a line, and tells where they end.

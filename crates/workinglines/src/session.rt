@@ -3,20 +3,22 @@ ghost use Rattle.cipherlines.specs.Chosen.{name_of};
 ghost use Rattle.digits.specs.Digits.{digits_bytes, number_of};
 ghost use Rattle.polyhash.specs.Running.{started};
 ghost use Rattle.words.specs.Splits.{parted};
+ghost use Rattle.workinglines.specs.Printed.{reply_text};
 ghost use Rattle.workinglines.specs.Replies.{session_state, state, step, parts_step, topic_step, cipher_parts, cipher_step, nonce_step, product_parts, hash_step, piece_step, mask_step, block_step, counters_step, keys_step, end_step};
 
 use crate::topic::Topic;
 use cipherlines::chosen::{Chosen, Name};
+use cipherlines::session::BLOCK_DIGITS;
 use ciphers::fault::KeyFault;
 use keystream::Keystream;
 use keystream::frame::last_counter;
 use polyhash::running::Running;
+use refusals::Refusal;
 use std::alloc::{AllocError, Global};
+use std::fmt;
 use words::parts;
 
 const NONCE_DIGITS: usize = 16;
-
-const BLOCK_DIGITS: usize = 32;
 
 const INDEX_DIGITS: usize = 8;
 
@@ -39,6 +41,34 @@ pub enum Reply {
     // a piece of so many bytes
     Absorbed(usize),
     Hashed(u128),
+}
+
+// As `made aes of the key`, `refused 7`, `nonce 3` and the like.
+impl fmt::Display for Reply {
+    ghost output = { reply_text };
+
+    fn fmt<W: fmt::Write>(&self, f: &mut fmt::Formatter<W>) -> fmt::Result {
+        match self {
+            Reply::Keyed(Ok(name)) => write!(f, "made {name} of the key"),
+            Reply::Keyed(Err(fault)) => {
+                let number = fault.number();
+                write!(f, "refused {number}")
+            }
+            Reply::Nonce(nonce) => write!(f, "nonce {nonce}"),
+            Reply::HashKeys { ciphertext, header } => {
+                write!(f, "hash keys {ciphertext:032x} and {header:032x}")
+            }
+            Reply::Mask { frame, mask } => write!(f, "mask of frame {frame} is {mask:032x}"),
+            Reply::Block { index, block } => {
+                write!(f, "keystream block {index} is {block:032x}")
+            }
+            Reply::Last(counter) => write!(f, "last counter {counter}"),
+            Reply::Product(product) => write!(f, "product {product:032x}"),
+            Reply::Begun => f.write_str("a hash begins"),
+            Reply::Absorbed(count) => write!(f, "absorbed {count} bytes"),
+            Reply::Hashed(hash) => write!(f, "hash {hash:032x}"),
+        }
+    }
 }
 
 // What the lines so far have set: a cipher, a nonce, and a hash that runs under a key. A line that is bad or refused changes

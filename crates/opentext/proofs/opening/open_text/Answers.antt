@@ -16,7 +16,7 @@ returns-in_err-message g c = IfOk-from_err c.from_residual-in_err-message.result
 
 pub returns-in-Ok : goal.returns-in-Ok
 returns-in-Ok g c =
-    let E = g.C.BlockCipher.image c.args.cipher.now in
+    let E = g.C.Permutation.image c.args.cipher.now in
     let text = c.args.text.now in
     let f = c.in-Ok.fields in
     let first = c.deref_mut.result.now in
@@ -40,7 +40,7 @@ returns-in-Ok g c =
 
 pub returns : goal.returns
 returns g c =
-    let E = g.C.BlockCipher.image c.args.cipher.now in
+    let E = g.C.Permutation.image c.args.cipher.now in
     let text = c.args.text.now in
     let fault = c.in-Err.fault in
     let first = c.deref_mut.result.now in

@@ -4,7 +4,7 @@ use Rattle.sheetlines.specs.Lines.{lines_size, fault_in, lines_fault}
 use Rattle.sheetlines.specs.Sheets.{frames_of}
 use Rattle.sheetlines.proofs.Widths.{Narrow, narrow_frames_of, size_frames_of}
 use Rattle.sheetreader.proofs.Rows.{row_passed}
-use Rattle.sheetreader.proofs.Whole.{in_range}
+use Rattle.sheetlines.proofs.Ranges.{in_range}
 use Rattle.sheetreader.proofs.sheet.read_rest.Goals as goal
 
 pub loop-width-init : goal.loop-width-init
