@@ -5,7 +5,7 @@
 -- head_answer, headed: what a piece of header is answered, and the draft after it.
 -- body_answer, bodied, body_out: likewise for a piece of message, with the buffer after it.
 -- sealed: what finish gives.
-use Rattle.std.specs.Prelude.{ℕ, ◌+◌, ◌-◌, cond, List, ◌++◌, length, take, replicate, Ok, Err, ◌==◌, nat_le}
+use Rattle.std.specs.Prelude.{ℕ, ◌+◌, ◌-◌, if◌then◌else◌, List, ◌++◌, length, take, replicate, Ok, Err, ◌==◌, nat_le}
 use Rattle.blocks.specs.Blocks.{bytes_of}
 use Rattle.keystream.specs.Counters.{block_at, ciphered, const0, const1}
 use Rattle.method.specs.Limits.{header_limit, message_limit, header_too_long, message_too_long, lengths_differ}
@@ -45,7 +45,7 @@ if_accepted (Err e) x y = y
 
 -- of a header of l bytes, and a piece of n
 abbrev pub header_answer : ℕ → ℕ → Answer (Unit {0})
-header_answer l n = cond (nat_le (l + n) header_limit) (Ok tt) (Err header_too_long)
+header_answer l n = if nat_le (l + n) header_limit then Ok tt else Err header_too_long
 
 abbrev pub head_answer : Draft → List ℕ → Answer (Unit {0})
 head_answer d p = header_answer d.head_len (length p)
@@ -58,7 +58,7 @@ headed d p =
 
 -- of a message of l bytes, a piece of n, and an output of so many bytes as room says
 abbrev pub message_answer : ℕ → ℕ → ℕ → Answer (Unit {0})
-message_answer l n room = cond (room == n) (cond (nat_le (l + n) message_limit) (Ok tt) (Err message_too_long)) (Err lengths_differ)
+message_answer l n room = if room == n then (if nat_le (l + n) message_limit then Ok tt else Err message_too_long) else Err lengths_differ
 
 abbrev pub body_answer : Draft → List ℕ → ℕ → Answer (Unit {0})
 body_answer d p room = message_answer d.words.len (length p) room

@@ -4,7 +4,7 @@
 -- tag_answer: what is said of a tag length.
 -- begin_answer, begun: what begin answers for a tag length, and the sealer after it.
 -- restarted_sealer: the sealer after a restart.
-use Rattle.std.specs.Prelude.{ℕ, ◌+◌, ◌*◌, Bool, true, false, cond, ◌&&◌, [], Some, None, Ok, Err, Option, nat_lt}
+use Rattle.std.specs.Prelude.{ℕ, ◌+◌, ◌*◌, Bool, true, false, if◌then◌else◌, ◌&&◌, [], Some, None, Ok, Err, Option, nat_lt}
 use Rattle.method.specs.Limits.{tag_fits, bad_tag_length}
 use Rattle.refusals.specs.Answers.{Told, Answer}
 use Rattle.stores.specs.Store.{Store, raise_told, raise_case, raise_answer, raised, restarted}
@@ -69,13 +69,13 @@ abbrev pub raise_live : Store → Bool
 raise_live s = raise_case s false true true false
 
 abbrev pub issue_answer : Standing → Answer ℕ
-issue_answer s = cond (some_left s.batch) (Ok (next_nonce s.batch)) (raise_nonce (raise_answer s.store))
+issue_answer s = if some_left s.batch then Ok (next_nonce s.batch) else raise_nonce (raise_answer s.store)
 
 abbrev pub issued : Standing → Standing
 issued s =
-    cond (some_left s.batch)
-    (standing s.store s.live (one_given s.batch))
-    (standing (raised s.store) (s.live && raise_live s.store) (raise_batch s.store s.batch))
+    if some_left s.batch
+    then standing s.store s.live (one_given s.batch)
+    else (standing (raised s.store) (s.live && raise_live s.store) (raise_batch s.store s.batch))
 
 -- the draft of the next nonce, with nothing of header and message yet
 abbrev pub drafted : (ℕ → ℕ) → ℕ → Answer ℕ → Answer Draft
@@ -83,14 +83,14 @@ drafted E t (Ok n) = Ok (words_of E n t [] [])
 drafted E t (Err e) = Err e
 
 abbrev pub tag_answer : ℕ → Answer (Unit {0})
-tag_answer t = cond (tag_fits t) (Ok tt) (Err bad_tag_length)
+tag_answer t = if tag_fits t then Ok tt else Err bad_tag_length
 
 -- the tag's length is tested first, then whether the sealer is down, and then what the raise reports
 abbrev pub begin_answer : (ℕ → ℕ) → Standing → ℕ → Answer Draft
-begin_answer E s t = cond (tag_fits t) (cond s.live (drafted E t (issue_answer s)) (Err sealer_down)) (Err bad_tag_length)
+begin_answer E s t = if tag_fits t then (if s.live then drafted E t (issue_answer s) else Err sealer_down) else Err bad_tag_length
 
 abbrev pub begun : Standing → ℕ → Standing
-begun s t = cond (tag_fits t && s.live) (issued s) s
+begun s t = if tag_fits t && s.live then issued s else s
 
 -- live, and without a batch
 abbrev pub restarted_sealer : Standing → ℕ → ℕ → Standing

@@ -2,7 +2,7 @@
 -- seal_told: what each fault tells.
 -- sizes_answer t h m room: what is said of a tag length, the lengths of header and message, and that of the output.
 -- seal_answer, sealed_standing, seal_out: what the call answers, and the sealer and the output after it.
-use Rattle.std.specs.Prelude.{ℕ, cond, List, length, Ok, Err, ◌==◌, nat_le}
+use Rattle.std.specs.Prelude.{ℕ, if◌then◌else◌, List, length, Ok, Err, ◌==◌, nat_le}
 use Rattle.keystream.specs.Counters.{ciphered}
 use Rattle.method.specs.Limits.{header_limit, message_limit, tag_fits, header_too_long, message_too_long, lengths_differ, bad_tag_length}
 use Rattle.refusals.specs.Answers.{Told, Answer}
@@ -20,9 +20,13 @@ seal_told (Body f) = body_told f
 -- the caller's faults are tested before a nonce is used: the tag's length, the header, the output, the message
 abbrev pub sizes_answer : ℕ → ℕ → ℕ → ℕ → Answer (Unit {0})
 sizes_answer t h m room =
-    cond (tag_fits t)
-    (cond (nat_le h header_limit) (cond (room == m) (cond (nat_le m message_limit) (Ok tt) (Err message_too_long)) (Err lengths_differ)) (Err header_too_long))
-    (Err bad_tag_length)
+    if tag_fits t
+    then (if nat_le h header_limit
+    then (if room == m
+    then (if nat_le m message_limit then Ok tt else Err message_too_long)
+    else Err lengths_differ)
+    else Err header_too_long)
+    else Err bad_tag_length
 
 abbrev pub if_sized : {X : Type 0} → Answer (Unit {0}) → Answer X → Answer X
 if_sized (Ok u) x = x
@@ -35,7 +39,7 @@ sealed_under E t h m (Err e) = Err e
 
 abbrev pub seal_answer : (ℕ → ℕ) → Standing → ℕ → List ℕ → List ℕ → ℕ → Answer Sealed
 seal_answer E s t h m room =
-    if_sized (sizes_answer t (length h) (length m) room) (cond s.live (sealed_under E t h m (issue_answer s)) (Err sealer_down))
+    if_sized (sizes_answer t (length h) (length m) room) (if s.live then sealed_under E t h m (issue_answer s) else Err sealer_down)
 
 abbrev pub sealed_standing : Standing → ℕ → List ℕ → List ℕ → ℕ → Standing
 sealed_standing s t h m room = if_accepted (sizes_answer t (length h) (length m) room) (begun s t) s

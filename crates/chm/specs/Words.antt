@@ -4,7 +4,7 @@
 -- steps E N w k: the words after k more bytes.
 -- sent E N w p: what the bytes p are xored to from the words w on.
 -- held E N m: the words after m bytes of message.
-use Rattle.std.specs.Prelude.{ℕ, zero, suc, ◌+◌, ◌-◌, ◌/◌, ◌%◌, cond, ◌||◌, List, map, length, ◌==◌, bit_xor, slice_index}
+use Rattle.std.specs.Prelude.{ℕ, zero, suc, ◌+◌, ◌-◌, ◌/◌, ◌%◌, if◌then◌else◌, ◌||◌, List, map, length, ◌==◌, bit_xor, slice_index}
 use Rattle.std.specs.List.{range_with_len}
 use Rattle.blocks.specs.Blocks.{bytes_of}
 use Rattle.keystream.specs.Counters.{mask, block_under, block_at}
@@ -18,13 +18,13 @@ more n w = key_words (w.len + n) w.veil w.word
 
 -- the mask for keystream block i: drawn at the message's start and at a frame's first block, and kept otherwise
 abbrev pub veil_for : (ℕ → ℕ) → ℕ → KeyWords → ℕ → ℕ
-veil_for E N w i = cond (w.len == 0 || i % 256 == 0) (mask E N (i / 256)) w.veil
+veil_for E N w i = if w.len == 0 || i % 256 == 0 then mask E N (i / 256) else w.veil
 
 unfoldable pub turned : (ℕ → ℕ) → ℕ → KeyWords → KeyWords
 turned E N w =
-    cond (w.len % 16 == 0)
-    (key_words w.len (veil_for E N w (1 + w.len / 16)) (block_under E N (veil_for E N w (1 + w.len / 16)) (1 + w.len / 16)))
-    w
+    if w.len % 16 == 0
+    then key_words w.len (veil_for E N w (1 + w.len / 16)) (block_under E N (veil_for E N w (1 + w.len / 16)) (1 + w.len / 16))
+    else w
 
 unfoldable pub steps : (ℕ → ℕ) → ℕ → KeyWords → ℕ → KeyWords
 steps E N w zero = w
@@ -39,4 +39,6 @@ sent E N w p = map (λ k. bit_xor (slice_index p k) (step_byte E N w k)) (range_
 
 unfoldable pub held : (ℕ → ℕ) → ℕ → ℕ → KeyWords
 held E N m =
-    cond (m == 0) (key_words 0 0 0) (key_words m (mask E N ((1 + (m - 1) / 16) / 256)) (block_at E N (1 + (m - 1) / 16)))
+    if m == 0
+    then key_words 0 0 0
+    else key_words m (mask E N ((1 + (m - 1) / 16) / 256)) (block_at E N (1 + (m - 1) / 16))

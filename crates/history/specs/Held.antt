@@ -3,7 +3,7 @@
 -- Held E h s ds: a sealer that stands so, and these places, hold the history h.
 -- Sound E h: what is true of every history from set-up on.
 -- Answered: a call that finds a sealer and places leaves others, whatever sound history they hold.
-use Rattle.std.specs.Prelude.{◌≡◌, ℕ, ◌+◌, ◌*◌, ◌<◌, ◌≤◌, cond, List, map, length, Some, None, Option, slice_index, slice_index_or}
+use Rattle.std.specs.Prelude.{◌≡◌, ℕ, ◌+◌, ◌*◌, ◌<◌, ◌≤◌, if◌then◌else◌, List, map, length, Some, None, Option, slice_index, slice_index_or}
 use Rattle.blocks.specs.Blocks.{AllBytes}
 use Rattle.chm.specs.Drafts.{words_of}
 use Rattle.chm.specs.Sealers.{Standing, batch_nonces}
@@ -15,7 +15,7 @@ use Rattle.stores.specs.Store.{Store, Lawful}
 use Rattle.history.specs.Runs.{Asked, Said, Seal, History, Tag, Answers, Run, set_up}
 
 abbrev pub slot : (ℕ → ℕ) → Seal → Option Draft
-slot E s = cond s.over None (Some (words_of E s.nonce s.tag_length s.header s.message))
+slot E s = if s.over then None else Some (words_of E s.nonce s.tag_length s.header s.message)
 
 pub record Held (E : ℕ → ℕ) (h : History) (s : Standing) (ds : List (Option Draft)) : Type 0 where
   pub stands : s ≡ h.now

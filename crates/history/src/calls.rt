@@ -35,7 +35,8 @@ fn begin_one<C: Permutation, S: MarkStore>(
     Ok(n)
 }
 
-// A piece in memory is bytes, so a draft that is fed one was fed bytes.
+// The draft is reached by its index: of what get_mut lends out of a slice, a proof learns no more than the length.
+// A piece in memory is bytes, so a draft that is fed one is fed bytes.
 #[tactic(auto, using(std::proofs::lemmas::List::get_or_past, std::proofs::lemmas::List::set_past, blocks::proofs::Numbers::all_bytes))]
 fn head_one(drafts: &mut [Option<Draft>], n: usize, piece: &[u8]) -> Option<Reply>
     ensures answer { said result ≡ head_said (slice_index_or drafts.old n None) piece.now }
