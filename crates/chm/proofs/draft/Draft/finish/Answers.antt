@@ -1,6 +1,0 @@
--- The laws on drafts, for every list of pieces.
-use Rattle.chm.proofs.Pieces.{draft_laws}
-use Rattle.chm.proofs.draft.Draft.finish.Goals as goal
-
-pub returns-clause-laws : goal.returns-clause-laws
-returns-clause-laws c = draft_laws
