@@ -5,16 +5,17 @@ ghost use Rattle.method.specs.Sheets.{limits_answer};
 
 use crate::limits::{HEADER_LIMIT, LimitFault, MESSAGE_LIMIT, NONCE_END, is_tag_length};
 
-// What a sheet is once it is sealed. It may be any bytes: whoever takes one tests its limits, and check its tag.
+// What a sheet is once it is sealed. It may be any bytes: whoever takes one tests its limits, and check its tag. The ciphertext has
+// a lifetime of its own, since a checked sheet goes on borrowing it, and not the rest.
 #[derive(Clone, Copy)]
-pub struct Sheet<'a> {
+pub struct Sheet<'s, 'c> {
     pub nonce: u64,
-    pub header: &'a [u8],
-    pub ciphertext: &'a [u8],
-    pub tag: &'a [u8],
+    pub header: &'s [u8],
+    pub ciphertext: &'c [u8],
+    pub tag: &'s [u8],
 }
 
-impl Sheet<'_> {
+impl Sheet<'_, '_> {
     // Tests the tag's length, the nonce, and the lengths of header and message, in this order.
     pub fn within_limits(&self) -> Result<(), LimitFault>
         ensures { answered limit_told result ≡ limits_answer self.now.nonce

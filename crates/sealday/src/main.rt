@@ -258,7 +258,7 @@ fn show_read<C: Permutation>(
 fn show_check<C: Permutation>(
     rt: &HostRuntime,
     cipher: &C,
-    sheet: &Sheet<'_>,
+    sheet: &Sheet<'_, '_>,
 ) -> anyhow::Result<()> {
     match check(cipher, sheet) {
         Ok(checked) => {

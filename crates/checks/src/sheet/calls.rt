@@ -14,10 +14,10 @@ use polyhash::running::calls::hash_of;
 
 // Checks a sheet: its limits, and then the tag. Nothing is deciphered. The last clause is the theorem on what is accepted
 // and on what reads of it give.
-pub fn check<'a, C: Permutation>(
+pub fn check<'c, C: Permutation>(
     cipher: &C,
-    sheet: &Sheet<'a>,
-) -> Result<CheckedSheet<'a>, CheckFault>
+    sheet: &Sheet<'_, 'c>,
+) -> Result<CheckedSheet<'c>, CheckFault>
     ensures answer { answered check_told (accepted result) ≡ check_answer (C.image cipher.now)
         sheet.now.nonce sheet.now.header.now sheet.now.ciphertext.now sheet.now.tag.now }
     ensures sheet { IfOk result (λ s.
