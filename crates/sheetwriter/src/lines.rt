@@ -36,6 +36,7 @@ fn body_size(message_len: usize) -> usize
 }
 
 // How many bytes the lines of a sheet have.
+#[tactic(auto, using(sheetlines::proofs::Widths::size_append))]
 pub(crate) fn sheet_size(fields: Fields) -> usize
     requires { field_fault fields ≡ None }
     ensures { result ≡ header_at + lines_size (widths fields) }
