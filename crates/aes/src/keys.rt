@@ -44,6 +44,7 @@ pub(crate) fn expand(key: [u8; 16]) -> [RoundKey; 11]
     for (i, constant) in ROUND_CONSTANTS.iter().enumerate() {
         let columns = next_round_key(*constant, k.columns);
         k = RoundKey { columns };
+        // by index: a proof knows nothing of what is written through a zip
         keys[i + 1] = k;
     }
     keys

@@ -54,6 +54,7 @@ impl BlockCipher for Aes128 {
     }
 
     fn set_key(&mut self, key: &[u8]) -> Result<(), KeyFault> {
+        // against the constant that each kind of cipher states
         if key.len() != Self::KEY_BYTES {
             return Err(KeyFault::WrongLength);
         }

@@ -25,6 +25,7 @@ pub(crate) fn encipher(keys: &[RoundKey; 11], s: [[u8; 4]; 4]) -> [[u8; 4]; 4]
 {
     let mut t = add_round_key(keys[0].columns, s);
     for key in &keys[1..10] {
+        // `t = round(..)` alone is not covered by the borrow checker
         let next = round(key.columns, t);
         t = next;
     }

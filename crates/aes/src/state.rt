@@ -1,4 +1,5 @@
 // The state as four columns of four bytes, and the four transformations of a round.
+// written out place by place, as the standard has it
 ghost use Rattle.std.specs.Prelude.{◌≡◌, ◌+◌, ◌%◌, [], ◌∷◌, bit_xor, slice_index};
 ghost use Rattle.bytefield.specs.Substitution.{substitution};
 ghost use Rattle.aes.specs.State.{column_of, input, output, sub_bytes, shift_rows, mixed, mix_columns, add_round_key};

@@ -35,6 +35,7 @@ impl Refusal for CheckFault {
 
     fn number(&self) -> u8 {
         match self {
+            // a variant that holds a value has no number of its own, so the arms say them
             CheckFault::Limit(fault) => fault.number(),
             CheckFault::TagDiffers => 15,
         }

@@ -2,7 +2,7 @@ ghost use Rattle.std.specs.Prelude.{◌≡◌, ◌^◌, ◌<◌, Some, None, if�
 ghost use Rattle.chm.specs.Sealers.{some_left, next_nonce, one_given};
 
 // A batch has so many nonces.
-pub(crate) const BATCH_NONCES: u64 = 1024;
+pub const BATCH_NONCES: u64 = 1024;
 
 // The nonces 1,024 times the number and the next 1,023, of which so many were given out.
 #[derive(Clone, Copy, Debug, PartialEq, Eq)]
@@ -11,6 +11,7 @@ pub struct Batch {
     pub given: u16,
 }
 
+// a batch is any number: its bounds stand at the sealer, which alone makes one
 impl Batch {
     // The next nonce, or None where all were given out.
     pub(crate) fn next(&mut self) -> Option<u64>

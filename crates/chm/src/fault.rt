@@ -9,6 +9,7 @@ use refusals::Refusal;
 use stores::fault::RaiseFault;
 
 // Why a piece of header was not taken.
+// (each call has the faults that it can give; `LimitFault`, of a whole sheet, shares their numbers)
 #[derive(Clone, Copy, Debug, PartialEq, Eq)]
 pub enum HeadFault {
     // the header would pass 4,096 bytes
@@ -51,6 +52,7 @@ pub enum BeginFault {
     Raise(RaiseFault),
 }
 
+// these by hand, since a derived `From` has no contract, and clauses name the fault
 impl From<RaiseFault> for BeginFault {
     ghost from_gives = { λ e r. r ≡ Raise e };
 
@@ -64,6 +66,7 @@ impl Refusal for BeginFault {
 
     fn number(&self) -> u8 {
         match self {
+            // a variant that holds a value has no number of its own, so the arms say them
             BeginFault::TagLength => 4,
             BeginFault::Down => 21,
             BeginFault::Raise(fault) => fault.number(),

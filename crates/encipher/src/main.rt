@@ -3,6 +3,7 @@
 
 use cipherlines::session::Session;
 
+// `workings` has the same loop over a session of its own; one for both would want a trait and a crate
 fn run(rt: &HostRuntime) -> anyhow::Result<()> {
     let mut session = Session::new();
     for (number, line) in (1u64..).zip(rt.lines(rt.alloc())) {

@@ -11,6 +11,7 @@ use cipherlines::chosen::{Chosen, Name};
 use ciphers::cipher::Permutation;
 use refusals::Refusal;
 
+// C names a cipher by a number; from here on it is a name.
 fn cipher_of(number: u8) -> Option<Name>
     ensures { result ≡ cipher_of number }
 {

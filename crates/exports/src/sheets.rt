@@ -10,9 +10,8 @@ use chm::sealer::Sealer;
 use keystream::Keystream;
 use method::sheet::Sheet;
 use refusals::Refusal;
+use sealtext::SUPPLY;
 use stores::register::Register;
-use stores::store::UNWRITTEN;
-use stores::supply::Supply;
 
 // Checks a sheet and answers 0, or the refusal's number; 7 for a key of another length than the cipher's, 255 for a number that is no cipher's.
 #[unsafe(no_mangle)]
@@ -87,11 +86,7 @@ pub extern "C" fn navreluk_seal_at(
     }
     match cipher_under(cipher, key) {
         Ok(chosen) => {
-            let supply = Supply {
-                power: u32::MAX,
-                leftover: UNWRITTEN,
-            };
-            let mut sealer = Sealer::new(chosen, Register::new(mark, supply));
+            let mut sealer = Sealer::new(chosen, Register::new(mark, SUPPLY));
             match sealer.seal(tag_len, header, message, out) {
                 Ok(sealed) => {
                     tag.copy_from_slice(&sealed.tag);

@@ -24,6 +24,7 @@ pub fn xor_part(word: u128, skip: usize, part: &mut [u8])
     let from = skip.min(BLOCK_BYTES);
     let end = part.len().min(BLOCK_BYTES - from);
     let front = &mut part[..end];
+    // by index: a proof knows nothing of what is written through a zip
     for (k, byte) in front.iter_mut().enumerate() {
         *byte ^= stream[from + k];
     }

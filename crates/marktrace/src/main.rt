@@ -63,6 +63,7 @@ fn run(rt: &HostRuntime) -> anyhow::Result<()> {
         all.push((number, line?))?;
     }
     let mut lines = all.iter();
+    // not `for`: `day` draws on the same lines
     while let Some((number, line)) = lines.next() {
         match Start::from_line(rt.alloc(), line)? {
             Some(Start::Register { mark, supply }) => {

@@ -20,6 +20,6 @@ pub fn sheetopen(heap: Global, input: &[u8]) -> Result<Vec<u8>, AllocError>
 {
     match read_opening(input) {
         Ok(opening) => open_named(heap, opening),
-        Err(line) => bad_line(heap, line.number()),
+        Err(line) => bad_line(heap, line),
     }
 }

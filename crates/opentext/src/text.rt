@@ -2,6 +2,7 @@
 ghost use Rattle.std.specs.Prelude.{◌≡◌, [], ◌∷◌, ◌++◌, IfOk, codes, OnOk};
 ghost use Rattle.checks.specs.Checks.{check_told};
 ghost use Rattle.ciphers.specs.Keys.{key_told};
+ghost use Rattle.inputlines.specs.Faults.{line_number};
 ghost use Rattle.sheetlines.specs.Faults.{line_told, sheet_told};
 ghost use Rattle.sheetlines.specs.Lines.{line_of};
 ghost use Rattle.sheetlines.specs.declared.fault.SheetFault.TheVariants.{OutOfRange};
@@ -12,6 +13,7 @@ ghost use Rattle.opentext.specs.Texts.{told_line, refused_text};
 use checks::fault::CheckFault;
 use ciphers::fault::KeyFault;
 use digits::codec::digits_of;
+use inputlines::fault::BadLine;
 use refusals::Refusal;
 use sheetlines::fault::{Field, LineFault, Place, SheetFault};
 use sheetopener::fault::{Buffer, OpenFault};
@@ -43,13 +45,15 @@ pub(crate) fn sheet_lines(
 }
 
 // The line that tells the number of a bad line.
-pub(crate) fn bad_line(heap: Global, line: u8) -> Result<Vec<u8>, AllocError>
-    ensures { IfOk result (λ v. v.items ≡ told_line (codes "bad line ") line []) }
+pub(crate) fn bad_line(heap: Global, line: BadLine) -> Result<Vec<u8>, AllocError>
+    ensures { IfOk result (λ v. v.items ≡ told_line (codes "bad line ") (line_number line) []) }
 {
+    let line = line.number();
     Ok(format!(in heap; "bad line {line}\n")?.into_bytes())
 }
 
 // The line that tells a refusal: its number, and what else it tells.
+// (no Display of the faults: this program alone tells their values, the others tell the number)
 fn refused_with(heap: Global, number: u8, values: &str) -> Result<Vec<u8>, AllocError>
     ensures { IfOk result (λ v. v.items ≡ told_line (codes "refused ") number values.now) }
 {

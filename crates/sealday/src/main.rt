@@ -6,7 +6,7 @@ use aes::Aes128;
 use anyhow::anyhow;
 use checks::sheet::CheckedSheet;
 use checks::sheet::calls::check;
-use chm::draft::Sealed;
+use chm::batch::BATCH_NONCES;
 use ciphers::cipher::{BlockCipher, Permutation};
 use ciphers::generic::under_key;
 use ciphers::practice::Practice;
@@ -18,15 +18,13 @@ use speck::Speck128_256;
 use std::alloc::{AllocError, Global};
 use std::io;
 use stores::register::Register;
+use stores::register::raises::REGISTER_CAPACITY;
 use stores::store::MarkStore;
 use stores::strip::Strip;
 use stores::supply::Supply;
 
-// A register has marks up to this.
-const REGISTER_END: u64 = 1 << 53;
-
 // One begin more than a batch has nonces.
-const LAST_BEGINS: usize = 1025;
+const LAST_BEGINS: usize = BATCH_NONCES as usize + 1;
 
 // The part of each message that is read alone.
 const PART_OFFSET: usize = 14;
@@ -148,6 +146,7 @@ fn keyed<C: BlockCipher + Drop>() -> anyhow::Result<C> {
     under_key(&key[..C::key_len().min(32)]).map_err(|_| anyhow!("the key has another length"))
 }
 
+// `Call` and `Reply` are of `history`, which prints nothing, so these are functions and no Display
 fn show_bytes(rt: &HostRuntime, bytes: &[u8]) -> io::Result<()> {
     for byte in bytes {
         print!(rt; "{byte:02x}")?;
@@ -338,7 +337,7 @@ fn for_each_store<C: BlockCipher + Drop>(rt: &HostRuntime, name: &str) -> anyhow
         power: 1,
         leftover: 0x7f,
     };
-    play::<C, Register>(rt, Register::new(REGISTER_END - 3, supply))?;
+    play::<C, Register>(rt, Register::new(REGISTER_CAPACITY - 3, supply))?;
     println!(rt; "{name} over the strip")?;
     let mut cells = [0x00, 0xff, 0xff, 0xff];
     play::<C, Strip<'_>>(rt, Strip::new(&mut cells, supply))?;
@@ -351,10 +350,7 @@ fn for_each_store<C: BlockCipher + Drop>(rt: &HostRuntime, name: &str) -> anyhow
 // The last batch there is: 1,024 begins take its nonces, and the next is refused.
 fn last_batch(rt: &HostRuntime) -> anyhow::Result<()> {
     let heap = rt.alloc();
-    let mut calls = Vec::new(heap);
-    for _ in 0..LAST_BEGINS {
-        calls.push(Call::Begin { tag_len: 16 })?;
-    }
+    let mut calls = vec![in heap; Call::Begin { tag_len: 16 }; LAST_BEGINS]?;
     calls.push(Call::Finish {
         draft: LAST_BEGINS - 2,
     })?;
@@ -363,7 +359,7 @@ fn last_batch(rt: &HostRuntime) -> anyhow::Result<()> {
         power: 2,
         leftover: 0xff,
     };
-    let store = Register::new(REGISTER_END - 1, supply);
+    let store = Register::new(REGISTER_CAPACITY - 1, supply);
     let replies = replay(heap, keyed::<Practice>()?, store, &calls)?;
     show_calls(rt, LAST_BEGINS - 2, &calls, &replies)
 }

@@ -36,8 +36,14 @@ value_of_ok (Err f) n e = absurd (let z : ◌≡◌ {A = ℕ} 0 1 = cc in omega 
 write_fits : (N : ℕ) (h c t : List ℕ) (room : ℕ) → Kept N (length h) (length c) (length t) → length (lines_of N h c t) ≤ room
     → write_answer N h c t room ≡ Ok (length (lines_of N h c t))
 write_fits N h c t room k fits =
-    rw (le-leb 12 (length t) k.least, le-leb (length t) 16 k.most, lt-ltb N (2 ^ 63) k.nonce, le-leb (length h) header_limit k.header,
-      le-leb (length c) message_limit k.message, le-leb (length (lines_of N h c t)) room fits)
+    rw (
+      le-leb 12 (length t) k.least,
+      le-leb (length t) 16 k.most,
+      lt-ltb N (2 ^ 63) k.nonce,
+      le-leb (length h) header_limit k.header,
+      le-leb (length c) message_limit k.message,
+      le-leb (length (lines_of N h c t)) room fits,
+    )
     refl
 
 -- the whole text is far below the output's 65,536 bytes

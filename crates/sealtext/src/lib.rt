@@ -8,6 +8,8 @@ use crate::lines::parse;
 use crate::sealing::seal;
 use crate::text::put_told;
 use refusals::Refusal;
+use stores::store::UNWRITTEN;
+use stores::supply::Supply;
 
 mod fault;
 mod lines;
@@ -19,6 +21,12 @@ const INPUT_LIMIT: usize = 65536;
 
 // No output is longer.
 pub const OUTPUT_BYTES: usize = 65536;
+
+// What a register is handed that seals one sheet: the largest power, and a leftover byte that leaves the mark.
+pub const SUPPLY: Supply = Supply {
+    power: u32::MAX,
+    leftover: UNWRITTEN,
+};
 
 // Answers a text: the lines of the sheet that it is sealed to, or one line that tells a bad line or a refusal.
 fn answer(text: &[u8], out: &mut [u8; OUTPUT_BYTES]) -> usize

@@ -8,11 +8,13 @@ use inputlines::fault::BadLine;
 use inputlines::line::{bytes_line, number_line};
 use inputlines::opening::read_opening;
 
+// `storelines` has the same of its own lines; no crate below both knows of lines
 const MARK_DIGITS: usize = 14;
 
 pub(crate) const LONGEST_MESSAGE: usize = 16384;
 
 // What the five lines of an input tell; key, header and message are still in digits.
+// (a key lies in it, so it derives neither printing nor comparison)
 #[derive(Clone, Copy)]
 pub(crate) struct Lines<'a> {
     pub(crate) name: Name,

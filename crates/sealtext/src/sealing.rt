@@ -11,9 +11,9 @@ ghost use Rattle.sealtext.specs.Inputs.{longest_message, lines_told};
 ghost use Rattle.sealtext.specs.Seals.{fault_told, tag_bytes, sheet_lines, header_answer, seal_input, counted};
 ghost use Rattle.sealtext.specs.Texts.{on_front, answer_front};
 
-use crate::OUTPUT_BYTES;
 use crate::fault::InputFault;
 use crate::lines::{LONGEST_MESSAGE, Lines};
+use crate::{OUTPUT_BYTES, SUPPLY};
 use chm::draft::{Draft, Sealed};
 use chm::fault::HeadFault;
 use chm::sealer::Sealer;
@@ -25,19 +25,11 @@ use method::limits::HEADER_LIMIT;
 use method::sheet::Sheet;
 use sheetwriter::write;
 use stores::register::Register;
-use stores::store::UNWRITTEN;
-use stores::supply::Supply;
 
 // No cipher has longer keys.
 const LONGEST_KEY: usize = 32;
 
 const TAG_BYTES: u8 = 16;
-
-// The register's power is the largest.
-const SUPPLY: Supply = Supply {
-    power: u32::MAX,
-    leftover: UNWRITTEN,
-};
 
 // The bytes that digits are, in a buffer that has room for them.
 fn bytes_in<'a>(text: &[u8], room: &'a mut [u8]) -> &'a [u8]
@@ -72,6 +64,7 @@ fn header_fits(header: &[u8]) -> Result<(), HeadFault>
 }
 
 // Feeds a header and a message to a new draft, and finishes it; the ciphertext has the message's length.
+// (not `Sealer::seal`, which judges the header before it begins: here a full register is refused first)
 fn finish_draft<C: Permutation>(
     mut draft: Draft,
     cipher: &C,
@@ -127,6 +120,7 @@ fn write_sheet<C: Permutation>(
         ciphertext,
         tag: &sealed.tag,
     };
+    // the sheet keeps its limits and fits, so it is not refused
     write(&sheet, out).unwrap_or(0)
 }
 

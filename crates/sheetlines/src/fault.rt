@@ -44,6 +44,7 @@ impl Refusal for LineFault {
 
     fn number(&self) -> u8 {
         match self {
+            // a variant that holds a value has no number of its own, so the arms say them
             LineFault::NoDigit(_) => 11,
             LineFault::WrongEnd(_) => 12,
         }
@@ -70,6 +71,7 @@ impl Field {
     }
 }
 
+// by hand, since a derived `From` has no contract, and clauses name the fault
 impl From<LineFault> for SheetFault {
     ghost from_gives = { λ e r. r ≡ InLine e };
 
@@ -83,6 +85,7 @@ impl Refusal for SheetFault {
 
     fn number(&self) -> u8 {
         match self {
+            // a variant that holds a value has no number of its own, so the arms say them
             SheetFault::InLine(fault) => fault.number(),
             SheetFault::OutOfRange(_) => 13,
             SheetFault::MoreBytes => 14,

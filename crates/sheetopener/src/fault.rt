@@ -24,6 +24,7 @@ pub enum OpenFault {
     InSeal(CheckFault),
 }
 
+// these by hand, since a derived `From` has no contract, and clauses name the fault
 impl From<SheetFault> for OpenFault {
     ghost from_gives = { λ e r. r ≡ InSheet e };
 
@@ -45,6 +46,7 @@ impl Refusal for OpenFault {
 
     fn number(&self) -> u8 {
         match self {
+            // a variant that holds a value has no number of its own, so the arms say them
             OpenFault::InSheet(fault) => fault.number(),
             OpenFault::BufferTooSmall(_) => 8,
             OpenFault::InSeal(fault) => fault.number(),

@@ -14,6 +14,7 @@ use sheetlines::layout::{FIRST_BYTES, FIRST_DIGITS};
 
 // The number that bytes are, the first the highest.
 #[tactic(auto, using(crate::proofs::Sums::number_more, crate::proofs::Sums::pow_more, crate::proofs::Sums::seven_bytes))]
+// (one loop for four widths; `from_be_bytes` would want an array of each)
 fn number(bytes: &[u8]) -> u64
     requires { length bytes.now ≤ 8 }
     ensures { result ≡ number bytes.now }
@@ -41,6 +42,7 @@ fn read_fields(text: &[u8]) -> Fields
 }
 
 // The first field that is outside its range.
+// (not `Sheet::within_limits`: lines are judged in another order, and before there is a sheet)
 fn out_of_range(fields: Fields) -> Option<Field>
     ensures { result ≡ field_fault fields }
 {

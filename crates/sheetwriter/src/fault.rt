@@ -14,6 +14,7 @@ pub enum WriteFault {
     BufferTooSmall,
 }
 
+// by hand, since a derived `From` has no contract, and clauses name the fault
 impl From<LimitFault> for WriteFault {
     ghost from_gives = { λ e r. r ≡ Limit e };
 
@@ -27,6 +28,7 @@ impl Refusal for WriteFault {
 
     fn number(&self) -> u8 {
         match self {
+            // a variant that holds a value has no number of its own, so the arms say them
             WriteFault::Limit(fault) => fault.number(),
             WriteFault::BufferTooSmall => 8,
         }

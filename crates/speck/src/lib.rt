@@ -16,7 +16,7 @@ const WORD_BYTES: usize = 8;
 // A cipher that holds its 34 round keys.
 #[derive(Clone, Copy)]
 pub struct Speck128_256 {
-    keys: [u64; 34],
+    keys: [u64; ROUNDS],
 }
 
 fn next_words(key: u64, x: u64, y: u64) -> (u64, u64)
@@ -26,7 +26,7 @@ fn next_words(key: u64, x: u64, y: u64) -> (u64, u64)
     (next, y.rotate_left(3) ^ next)
 }
 
-fn all_rounds(keys: &[u64; 34], x: u64, y: u64) -> (u64, u64)
+fn all_rounds(keys: &[u64; ROUNDS], x: u64, y: u64) -> (u64, u64)
     ensures { result ≡ rounds 34 (λ i. get_or keys.now i 0) (x, y) }
 {
     let mut v = (x, y);
@@ -42,17 +42,17 @@ fn word_of(key: &[u8], j: usize) -> u64
     ensures { result ≡ key_word key.now j }
 {
     let at = WORD_BYTES * j;
-    let mut bytes = [0; 8];
+    let mut bytes = [0; WORD_BYTES];
     bytes.copy_from_slice(&key[at..at + WORD_BYTES]);
     u64::from_be_bytes(bytes)
 }
 
 // The round keys of a key of 32 bytes: with them a block has the image that the standard gives it.
-fn expand(key: &[u8]) -> [u64; 34]
+fn expand(key: &[u8]) -> [u64; ROUNDS]
     requires { length key.now ≡ 32 }
     ensures { keys_image result ≡ speck key.now }
 {
-    let mut keys = [0; 34];
+    let mut keys = [0; ROUNDS];
     let mut k = word_of(key, 3);
     let mut l = word_of(key, 2);
     let mut l1 = word_of(key, 1);
@@ -97,6 +97,7 @@ impl BlockCipher for Speck128_256 {
     }
 
     fn set_key(&mut self, key: &[u8]) -> Result<(), KeyFault> {
+        // against the constant that each kind of cipher states
         if key.len() != Self::KEY_BYTES {
             return Err(KeyFault::WrongLength);
         }

@@ -8,6 +8,7 @@ use std::alloc::{AllocError, Global};
 use stores::supply::Supply;
 use words::parts;
 
+// `sealtext` has the same of its own lines; no crate below both knows of lines
 const MARK_DIGITS: usize = 14;
 
 // A store to start with.
@@ -19,6 +20,7 @@ pub enum Start {
 
 impl Start {
     // The store that a line tells; `None` for any other line.
+    // (no `FromStr`: the cells of a strip want the heap, for which that has no place)
     pub fn from_line(heap: Global, line: &str) -> Result<Option<Start>, AllocError>
         ensures { IfOk result (λ o. option_map start_told o ≡ start_of line.now) }
     {

@@ -9,6 +9,7 @@ pub mod raises;
 pub struct Register {
     mark: u64,
     supply: Supply,
+    // apart from the supply: a store that is off still tells what it had
     on: bool,
     ghost within: { mark ≤ 2 ^ 53 },
 }

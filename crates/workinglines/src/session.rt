@@ -12,6 +12,7 @@ use cipherlines::session::BLOCK_DIGITS;
 use ciphers::fault::KeyFault;
 use keystream::Keystream;
 use keystream::frame::last_counter;
+use method::limits::NONCE_END;
 use polyhash::running::Running;
 use refusals::Refusal;
 use std::alloc::{AllocError, Global};
@@ -21,9 +22,6 @@ use words::parts;
 const NONCE_DIGITS: usize = 16;
 
 const INDEX_DIGITS: usize = 8;
-
-// Nonces have 63 bits. The limit of `method` is the same, but nothing else of that crate is needed here.
-const NONCE_END: u128 = 1 << 63;
 
 // What a line is answered with.
 #[derive(Clone, Copy, Debug, PartialEq, Eq)]
@@ -73,6 +71,7 @@ impl fmt::Display for Reply {
 
 // What the lines so far have set: a cipher, a nonce, and a hash that runs under a key. A line that is bad or refused changes
 // nothing.
+// (a key lies in it, so it derives neither printing nor comparison; contracts name what it means by `session_state`, of which the definitions speak: a model would name it twice)
 #[derive(Clone, Copy)]
 pub struct Session {
     cipher: Option<Chosen>,
@@ -177,7 +176,7 @@ impl Session {
         ensures { (result, session_state self.new) ≡ nonce_step (session_state self.old) (number_of 16 text.now) }
     {
         let nonce = digits::number(text.as_bytes(), NONCE_DIGITS)?;
-        if nonce >= NONCE_END {
+        if nonce >= u128::from(NONCE_END) {
             return None;
         }
         self.nonce = nonce as u64;

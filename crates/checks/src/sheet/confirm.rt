@@ -16,6 +16,7 @@ fn same_front(tag: &[u8], full: &[u8]) -> bool
     ensures { Decides result (take (length tag.now) full.now ≡ tag.now) }
 {
     let mut gap = 0;
+    // by index: with a zip the proof did not find which byte of `full` is at hand
     for (k, byte) in tag.iter().enumerate() {
         gap |= full[k] ^ *byte;
     }

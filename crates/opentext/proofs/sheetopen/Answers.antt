@@ -1,5 +1,6 @@
 -- What the first two lines tell is opened, or the bad one is told.
 use Rattle.std.proofs.Common.{[], codes, sym, ap, ◌∙◌}
+use Rattle.inputlines.specs.Faults.{line_number}
 use Rattle.inputlines.specs.Openings.{opening_told}
 use Rattle.opentext.proofs.Told.{told_as}
 use Rattle.opentext.specs.Texts.{told_line, named_text, input_text, sheetopen_text}
@@ -14,5 +15,5 @@ returns-in-Ok c =
 pub returns-in-Err : goal.returns-in-Err
 unfolding sheetopen_text
 returns-in-Err c =
-    told_as c.bad_line.result (told_line (codes "bad line ") c.number.result []) (sheetopen_text c.args.input.now)
-    (ap (λ n. told_line (codes "bad line ") n []) c.number.ensures.told ∙ ap input_text (sym c.in-Err.ensures)) c.bad_line.ensures
+    told_as c.bad_line.result (told_line (codes "bad line ") (line_number c.in-Err.line) []) (sheetopen_text c.args.input.now)
+    (ap input_text (sym c.in-Err.ensures)) c.bad_line.ensures

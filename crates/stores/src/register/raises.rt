@@ -8,7 +8,7 @@ use crate::register::Register;
 use crate::store::{MarkStore, UNWRITTEN};
 use crate::supply::Supply;
 
-const REGISTER_CAPACITY: u64 = 1 << 53;
+pub const REGISTER_CAPACITY: u64 = 1 << 53;
 
 // Follows what a cell would say: a byte of ff cannot be told from a cell that was never written.
 fn cut_mark(mark: u64, leftover: u8) -> u64
