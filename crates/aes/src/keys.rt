@@ -3,8 +3,8 @@ ghost use Rattle.std.specs.Prelude.{◌≡◌};
 ghost use Rattle.aes.specs.Cipher.{aes_128, turned, next_round_key};
 ghost use Rattle.aes.specs.Keyed.{keys_image};
 
-use crate::RoundKey;
 use crate::state::{add_column, from_block};
+use crate::{Columns, RoundKey};
 use bytefield::substitute;
 
 // The powers of x in the field of bytes, one for each round key after the first.
@@ -23,7 +23,7 @@ fn turn(constant: u8, a: [u8; 4]) -> [u8; 4]
 }
 
 // The first column takes the last one turned, and each other column the one before it.
-fn next_round_key(constant: u8, k: [[u8; 4]; 4]) -> [[u8; 4]; 4]
+fn next_round_key(constant: u8, k: Columns) -> Columns
     ensures { result ≡ next_round_key constant k }
 {
     let a = add_column(k[0], turn(constant, k[3]));

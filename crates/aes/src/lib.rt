@@ -15,10 +15,13 @@ mod keys;
 mod rounds;
 mod state;
 
-// What a round adds to the state: four columns of four bytes.
+// Four columns of four bytes: the state, or what a round adds to it.
+type Columns = [[u8; 4]; 4];
+
+// What a round adds to the state.
 #[derive(Clone, Copy)]
 struct RoundKey {
-    columns: [[u8; 4]; 4],
+    columns: Columns,
 }
 
 // AES under a key of sixteen bytes: the key expanded, so that an image costs no expansion.

@@ -3,24 +3,24 @@ ghost use Rattle.std.specs.Prelude.{◌≡◌};
 ghost use Rattle.aes.specs.Cipher.{round as round_of, final_round, cipher};
 ghost use Rattle.aes.specs.Keyed.{held};
 
-use crate::RoundKey;
 use crate::state::{add_round_key, mix_columns, shift_rows, sub_bytes};
+use crate::{Columns, RoundKey};
 
-fn round(k: [[u8; 4]; 4], s: [[u8; 4]; 4]) -> [[u8; 4]; 4]
+fn round(k: Columns, s: Columns) -> Columns
     ensures { result ≡ round_of k s }
 {
     add_round_key(k, mix_columns(shift_rows(sub_bytes(s))))
 }
 
 // The last round mixes no columns.
-fn final_round(k: [[u8; 4]; 4], s: [[u8; 4]; 4]) -> [[u8; 4]; 4]
+fn final_round(k: Columns, s: Columns) -> Columns
     ensures { result ≡ final_round k s }
 {
     add_round_key(k, shift_rows(sub_bytes(s)))
 }
 
 // A state enciphered with eleven round keys.
-pub(crate) fn encipher(keys: &[RoundKey; 11], s: [[u8; 4]; 4]) -> [[u8; 4]; 4]
+pub(crate) fn encipher(keys: &[RoundKey; 11], s: Columns) -> Columns
     ensures { result ≡ cipher (held keys.now) s }
 {
     let mut t = add_round_key(keys[0].columns, s);

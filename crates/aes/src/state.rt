@@ -5,10 +5,11 @@ ghost use Rattle.bytefield.specs.Substitution.{substitution};
 ghost use Rattle.aes.specs.State.{column_of, input, output, sub_bytes, shift_rows, mixed, mix_columns, add_round_key};
 ghost use Rattle.aes.specs.Cipher.{add_column};
 
+use crate::Columns;
 use bytefield::{substitute, times_x};
 
 // The state that a block's bytes are, column by column.
-pub(crate) fn from_block(b: [u8; 16]) -> [[u8; 4]; 4]
+pub(crate) fn from_block(b: [u8; 16]) -> Columns
     ensures { result ≡ input b }
 {
     [
@@ -20,7 +21,7 @@ pub(crate) fn from_block(b: [u8; 16]) -> [[u8; 4]; 4]
 }
 
 // The block's bytes that a state is.
-pub(crate) fn to_block(s: [[u8; 4]; 4]) -> [u8; 16]
+pub(crate) fn to_block(s: Columns) -> [u8; 16]
     ensures { result ≡ output s }
 {
     let [a, b, c, d] = s;
@@ -42,7 +43,7 @@ fn sub_column(a: [u8; 4]) -> [u8; 4]
 }
 
 // Each byte substituted.
-pub(crate) fn sub_bytes(s: [[u8; 4]; 4]) -> [[u8; 4]; 4]
+pub(crate) fn sub_bytes(s: Columns) -> Columns
     ensures { result ≡ sub_bytes s }
 {
     [
@@ -61,7 +62,7 @@ fn diagonal(a: [u8; 4], b: [u8; 4], c: [u8; 4], d: [u8; 4]) -> [u8; 4]
 }
 
 // Row r moved by r columns to the left, round and round.
-pub(crate) fn shift_rows(s: [[u8; 4]; 4]) -> [[u8; 4]; 4]
+pub(crate) fn shift_rows(s: Columns) -> Columns
     ensures { result ≡ shift_rows s }
 {
     [
@@ -91,7 +92,7 @@ fn mix_column(a: [u8; 4]) -> [u8; 4]
 }
 
 // Each column mixed.
-pub(crate) fn mix_columns(s: [[u8; 4]; 4]) -> [[u8; 4]; 4]
+pub(crate) fn mix_columns(s: Columns) -> Columns
     ensures { result ≡ mix_columns s }
 {
     [
@@ -112,7 +113,7 @@ pub(crate) fn add_column(a: [u8; 4], b: [u8; 4]) -> [u8; 4]
 }
 
 // The round key added.
-pub(crate) fn add_round_key(k: [[u8; 4]; 4], s: [[u8; 4]; 4]) -> [[u8; 4]; 4]
+pub(crate) fn add_round_key(k: Columns, s: Columns) -> Columns
     ensures { result ≡ add_round_key k s }
 {
     [

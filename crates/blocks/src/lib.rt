@@ -7,7 +7,7 @@ ghost use Rattle.blocks.specs.Blocks.{number, bytes_of};
 pub const BLOCK_BYTES: usize = 16;
 
 // The number that a block's bytes are.
-// (a name for the library's call, with the clauses by which all specifications speak of blocks)
+// A name for the library's call, with the clauses by which all specifications speak of blocks.
 pub fn from_bytes(bytes: [u8; 16]) -> u128
     ensures value { result ≡ number bytes }
     ensures back { bytes_of 16 result ≡ bytes }

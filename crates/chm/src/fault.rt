@@ -9,7 +9,7 @@ use refusals::Refusal;
 use stores::fault::RaiseFault;
 
 // Why a piece of header was not taken.
-// (each call has the faults that it can give; `LimitFault`, of a whole sheet, shares their numbers)
+// Each call has the faults that it can give; `LimitFault`, of a whole sheet, shares their numbers.
 #[derive(Clone, Copy, Debug, PartialEq, Eq)]
 pub enum HeadFault {
     // the header would pass 4,096 bytes

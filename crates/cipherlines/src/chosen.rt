@@ -26,7 +26,8 @@ pub enum Name {
 #[derive(Clone, Copy, Debug, PartialEq, Eq)]
 pub struct UnknownName;
 
-// A cipher of any of these names. It holds a key, so it derives neither printing nor comparison. Each is a type of its own, so the calls below have an arm for each.
+// A cipher of any of these names. It holds a key, so it derives neither printing nor comparison. Each is a type of its own, so the
+// calls below have an arm for each.
 #[derive(Clone, Copy)]
 pub enum Chosen {
     Practice(Practice),

@@ -44,7 +44,7 @@ impl fmt::Display for Reply {
     }
 }
 
-// (a key lies in it, so it derives neither printing nor comparison)
+// A key lies in it, so it derives neither printing nor comparison.
 #[derive(Clone, Copy)]
 enum Stage {
     Naming,
@@ -54,7 +54,8 @@ enum Stage {
 
 // Takes lines one after another: a cipher's name, a key in digits, then blocks of 32 digits; an empty line ends the blocks,
 // and another name may come. A line that is bad or refused leaves the session where it was.
-// (a key lies in it, so it derives neither printing nor comparison; contracts name what it means by `session_state`, of which the definitions speak: a model would name it twice)
+// A key lies in it, so it derives neither printing nor comparison. Contracts name what it means by `session_state`, of which the
+// definitions speak: a model would name it twice.
 #[derive(Clone, Copy)]
 pub struct Session {
     stage: Stage,

@@ -12,7 +12,7 @@ pub mod codec;
 const MOST_DIGITS: usize = 32;
 
 // The value of a digit; `None` for any other character, an upper-case letter too.
-// (by hand: `to_digit` takes upper-case letters, and `from_str_radix` a sign)
+// By hand: `to_digit` takes upper-case letters, and `from_str_radix` a sign.
 pub fn digit_value(c: char) -> Option<u8>
     ensures { result ≡ value_of c }
 {

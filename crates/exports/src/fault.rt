@@ -39,7 +39,7 @@ impl Refusal for CallFault {
 pub(crate) const BAD_CALL: u8 = 255;
 
 // 0 where a call was accepted, and else the refusal's number.
-// (C takes numbers: here, and at the end of each call, a Result becomes one)
+// C takes numbers: here, and at the end of each call, a Result becomes one.
 pub(crate) fn status<T: Drop, R: Refusal + Drop>(made: Result<T, R>) -> u8
     ensures { result ≡ number_of (answered R.told made) }
 {

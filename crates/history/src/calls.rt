@@ -97,7 +97,7 @@ fn finish_one(drafts: &mut [Option<Draft>], n: usize) -> Option<Reply>
 
 // Gives one call, with the buffer that a body wants, and answers as every sound history that sealer and drafts hold is answered.
 // An entry that names no open draft is no call, and has no answer.
-// (the buffer comes beside the call, since it is taken before the first call)
+// The buffer comes beside the call, since it is taken before the first call.
 fn answer<C: Permutation, S: MarkStore>(
     sealer: &mut Sealer<C, S>,
     drafts: &mut Vec<Option<Draft>>,

@@ -28,7 +28,7 @@ pub enum Call<'a> {
 }
 
 // What a call answered.
-// (it has no ==, since a `Sealed` has none)
+// It has no ==, since a `Sealed` has none.
 #[derive(Debug, Drop)]
 pub enum Reply {
     // the number of the draft

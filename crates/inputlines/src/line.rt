@@ -8,7 +8,7 @@ use cipherlines::chosen::Name;
 use digits::digit_value;
 
 // What stands before the first line feed of a text, and what stands behind it; `None` where it has no line feed.
-// (`words::parts` does this of text; these are bytes, which may be no text)
+// `words::parts` does this of text; these are bytes, which may be no text.
 pub fn next_line(text: &[u8]) -> Option<(&[u8], &[u8])>
     ensures { MatchOption result (parted_line text.now ≡ None)
         (λ p. parted_line text.now ≡ Some (p.0.now, p.1.now)) }

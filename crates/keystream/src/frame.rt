@@ -31,7 +31,7 @@ fn counter_behind(index: u64) -> u64
 
 impl<C: Permutation> Keystream<'_, C> {
     // The mask of a frame that a message can reach.
-    // (public calls ask for nothing, so they take 32 bits, of which every number can be reached; these take all that a message can)
+    // Public calls ask for nothing, so they take 32 bits, of which every number can be reached; these take all that a message can.
     pub(crate) fn reached_mask(&self, frame: u64) -> u128
         requires { frame < 2 ^ 55 }
         ensures { result ≡ mask (C.image self.now.cipher.now) self.now.nonce frame }

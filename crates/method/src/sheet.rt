@@ -7,7 +7,7 @@ use crate::limits::{HEADER_LIMIT, LimitFault, MESSAGE_LIMIT, NONCE_END, is_tag_l
 
 // What a sheet is once it is sealed. It may be any bytes: whoever takes one tests its limits, and check its tag. The ciphertext has
 // a lifetime of its own, since a checked sheet goes on borrowing it, and not the rest.
-// (it has no ==, which would stop at the first byte of a tag that differs)
+// It has no ==, which would stop at the first byte of a tag that differs.
 #[derive(Clone, Copy)]
 pub struct Sheet<'s, 'c> {
     pub nonce: u64,

@@ -13,7 +13,7 @@ use sheetopener::open::open;
 use std::alloc::{AllocError, Global};
 
 // The bytes that digits are.
-// (the digits were judged when the line was read, so it cannot refuse, as `digits::bytes` may)
+// The digits were judged when the line was read, so it cannot refuse, as `digits::bytes` may.
 fn bytes_of(heap: Global, text: &[u8]) -> Result<Vec<u8>, AllocError>
     ensures { IfOk result (λ v. v.items ≡ unhex text.now) }
 {

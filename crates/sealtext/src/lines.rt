@@ -14,7 +14,7 @@ const MARK_DIGITS: usize = 14;
 pub(crate) const LONGEST_MESSAGE: usize = 16384;
 
 // What the five lines of an input tell; key, header and message are still in digits.
-// (a key lies in it, so it derives neither printing nor comparison)
+// A key lies in it, so it derives neither printing nor comparison.
 #[derive(Clone, Copy)]
 pub(crate) struct Lines<'a> {
     pub(crate) name: Name,

@@ -64,7 +64,7 @@ fn header_fits(header: &[u8]) -> Result<(), HeadFault>
 }
 
 // Feeds a header and a message to a new draft, and finishes it; the ciphertext has the message's length.
-// (not `Sealer::seal`, which judges the header before it begins: here a full register is refused first)
+// Not `Sealer::seal`, which judges the header before it begins: here a full register is refused first.
 fn finish_draft<C: Permutation>(
     mut draft: Draft,
     cipher: &C,

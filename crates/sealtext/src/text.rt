@@ -3,7 +3,7 @@ ghost use Rattle.std.specs.Prelude.{◌≡◌, ◌+◌, ◌<◌, ◌≤◌, leng
 ghost use Rattle.sealtext.specs.Texts.{told_line, on_front};
 
 // Puts a word, a number in decimal digits and a line feed to the front of a buffer, and tells how many bytes these are.
-// (by hand: `format!` wants the heap, and of a `write!` to bytes a clause knows nothing)
+// By hand: `format!` wants the heap, and of a `write!` to bytes a clause knows nothing.
 pub(crate) fn put_told(word: &str, number: u8, out: &mut [u8]) -> usize
     requires two { number < 100 }
     requires room { length word.now + 3 ≤ length out.old }

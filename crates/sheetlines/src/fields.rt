@@ -1,5 +1,5 @@
 // What line 1 tells of a sheet.
-// (plain numbers, judged or not: a type for those in range would be made once and taken apart three times)
+// Plain numbers, judged or not: a type for those in range would be made once and taken apart three times.
 #[derive(Clone, Copy, Debug, PartialEq, Eq)]
 pub struct Fields {
     pub nonce: u64,

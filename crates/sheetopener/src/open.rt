@@ -15,8 +15,8 @@ use sheetreader::sheet::read_sheet;
 // the rest of both stays. It refuses what the lines' first fault is (11 to 14), then a buffer that is too small (8, which tells 1 for
 // the header's and 2 for the message's), then a tag that is not the sheet's (15), and leaves both buffers as they were. It tells
 // nonce, both lengths and the tag's length. The last clause ties it to check and to write.
+// No heap here: the caller lends the buffers, and `Fields` tells how much of them is filled.
 #[tactic(auto, using(crate::proofs::Proved::open_laws))]
-// (no heap here: the caller lends the buffers, and `Fields` tells how much of them is filled)
 pub fn open<C: Permutation>(
     cipher: &C,
     text: &[u8],

@@ -13,8 +13,8 @@ use sheetlines::frames::Frames;
 use sheetlines::layout::{FIRST_BYTES, FIRST_DIGITS};
 
 // The number that bytes are, the first the highest.
+// One loop for four widths; `from_be_bytes` would want an array of each.
 #[tactic(auto, using(crate::proofs::Sums::number_more, crate::proofs::Sums::pow_more, crate::proofs::Sums::seven_bytes))]
-// (one loop for four widths; `from_be_bytes` would want an array of each)
 fn number(bytes: &[u8]) -> u64
     requires { length bytes.now ≤ 8 }
     ensures { result ≡ number bytes.now }
@@ -41,24 +41,24 @@ fn read_fields(text: &[u8]) -> Fields
     }
 }
 
-// The first field that is outside its range.
-// (not `Sheet::within_limits`: lines are judged in another order, and before there is a sheet)
-fn out_of_range(fields: Fields) -> Option<Field>
-    ensures { result ≡ field_fault fields }
+// Tests that each field is in its range; the first that is not is the fault.
+// Not `Sheet::within_limits`: lines are judged in another order, and before there is a sheet.
+fn in_range(fields: Fields) -> Result<(), Field>
+    ensures { MatchResult result (λ _. field_fault fields ≡ None) (λ f. field_fault fields ≡ Some f) }
 {
     if fields.nonce >= NONCE_END {
-        return Some(Field::Nonce);
+        return Err(Field::Nonce);
     }
     if fields.message_len > MESSAGE_LIMIT {
-        return Some(Field::MessageLength);
+        return Err(Field::MessageLength);
     }
     if fields.header_len > HEADER_LIMIT {
-        return Some(Field::HeaderLength);
+        return Err(Field::HeaderLength);
     }
     if !is_tag_length(fields.tag_len) {
-        return Some(Field::TagLength);
+        return Err(Field::TagLength);
     }
-    None
+    Ok(())
 }
 
 // Reads the lines after the first, or tells their first fault.
@@ -88,7 +88,7 @@ pub fn read_sheet(text: &[u8]) -> Result<Fields, SheetFault>
     };
     lines.read(FIRST_DIGITS)?;
     let fields = read_fields(text);
-    if let Some(field) = out_of_range(fields) {
+    if let Err(field) = in_range(fields) {
         return Err(SheetFault::OutOfRange(field));
     }
     read_rest(&mut lines, fields)?;

@@ -20,7 +20,7 @@ mod lines;
 // a tag of another length than 12 to 16, a nonce of 2^63 or more, a header above 4,096 bytes, a ciphertext above 1,048,576, and a
 // buffer that the lines do not fit, in this order, and then leaves the buffer as it was. It does not judge the tag, and needs no
 // cipher.
-// (no heap here: the caller lends the buffer, and the count tells how much of it is filled)
+// No heap here: the caller lends the buffer, and the count tells how much of it is filled.
 pub fn write(sheet: &Sheet<'_, '_>, out: &mut [u8]) -> Result<usize, WriteFault>
     ensures answer { answered write_told result ≡ write_answer
         sheet.now.nonce sheet.now.header.now sheet.now.ciphertext.now sheet.now.tag.now (length out.old) }

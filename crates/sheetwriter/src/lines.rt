@@ -48,7 +48,7 @@ pub(crate) fn sheet_size(fields: Fields) -> usize
 }
 
 // Puts the lines of a ciphertext, a frame a line, and tells where they end.
-// (a place is handed on, since the lines differ in width, and a proof knows nothing of what is written through `chunks_mut`)
+// A place is handed on, since the lines differ in width, and a proof knows nothing of what is written through `chunks_mut`.
 pub(crate) fn put_body(out: &mut [u8], start: usize, ciphertext: &[u8]) -> usize
     requires { start + lines_size (frames_of (length ciphertext.now)) ≤ length out.old }
     ensures wrote { out.new ≡

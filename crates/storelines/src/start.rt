@@ -20,7 +20,7 @@ pub enum Start {
 
 impl Start {
     // The store that a line tells; `None` for any other line.
-    // (no `FromStr`: the cells of a strip want the heap, for which that has no place)
+    // No `FromStr`: the cells of a strip want the heap, for which that has no place.
     pub fn from_line(heap: Global, line: &str) -> Result<Option<Start>, AllocError>
         ensures { IfOk result (λ o. option_map start_told o ≡ start_of line.now) }
     {

@@ -9,7 +9,7 @@ const POWER_DIGITS: usize = 8;
 const LEFTOVER_DIGITS: usize = 2;
 
 // Power in 8 digits, a space, leftover in 2 digits; `None` for any other text.
-// (a function: neither a method nor a trait of the library can be given to a type of `stores` here)
+// A function: neither a method nor a trait of the library can be given to a type of `stores` here.
 pub fn from_text(text: &str) -> Option<Supply>
     ensures { result ≡ supply_of text.now }
 {

@@ -7,7 +7,7 @@ use crate::fault::RaiseFault;
 use std::fmt;
 
 // What a mark store is at one moment: the five things that it means, as plain values to be printed or compared.
-// (the five stand side by side, as a store has them; so power and leftover do not come as a `Supply` here)
+// The five stand side by side, as a store has them; so power and leftover do not come as a `Supply` here.
 #[derive(Clone, Copy, Debug, PartialEq, Eq)]
 pub struct Reading {
     pub mark: u64,
@@ -20,7 +20,7 @@ pub struct Reading {
 impl Reading {
     // Whether a raise of a store that reads so completes: the power fails in one that does not. A store that is off or full
     // refuses it.
-    // (a plain yes or no; the refusals are the error)
+    // A plain yes or no; the refusals are the error.
     pub(crate) fn completes(self) -> Result<bool, RaiseFault>
         ensures { answered raise_told result
             ≡ raise_case (reading_store self) (Err power_failed) (Err full) (Ok true) (Ok false) }

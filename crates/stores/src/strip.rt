@@ -83,7 +83,7 @@ impl MarkStore for Strip<'_> {
     }
 
     // It writes the cell at the mark and no other: 00 where it completes, the leftover byte where the power fails.
-    // (the register writes a number and the strip a cell; only the test before that is one)
+    // The register writes a number and the strip a cell; only the test before that is one.
     fn raise(&mut self) -> Result<u64, RaiseFault>
         ensures answer { answered raise_told result ≡ raise_answer (strip_store self.old) }
         ensures after { strip_store self.new ≡ raised (strip_store self.old) }

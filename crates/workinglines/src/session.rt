@@ -71,7 +71,8 @@ impl fmt::Display for Reply {
 
 // What the lines so far have set: a cipher, a nonce, and a hash that runs under a key. A line that is bad or refused changes
 // nothing.
-// (a key lies in it, so it derives neither printing nor comparison; contracts name what it means by `session_state`, of which the definitions speak: a model would name it twice)
+// A key lies in it, so it derives neither printing nor comparison. Contracts name what it means by `session_state`, of which the
+// definitions speak: a model would name it twice.
 #[derive(Clone, Copy)]
 pub struct Session {
     cipher: Option<Chosen>,

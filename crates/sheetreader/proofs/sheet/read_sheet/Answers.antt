@@ -13,7 +13,7 @@ returns-then-not-is_empty c =
     let h = c.in_ok-read_rest.ensures in
     let some = c.if-not-is_empty.ensures in
     record {
-      answer = more_bytes c.args.text.now c.read_fields-fields.result first.fault c.read_fields-fields.ensures c.in_default.ensures
+      answer = more_bytes c.args.text.now c.read_fields-fields.result first.fault c.read_fields-fields.ensures (sym c.in_default.ensures)
           (ap (lines_fault 2 ws) (sym first.rest) ∙ h.fault) c.read_rest.new.lines.rest.now
           (h.rest ∙ ap (drop (lines_size ws)) first.rest) (grind (arith, nat_tests));
     }
@@ -25,7 +25,7 @@ returns c =
     let h = c.in_ok-read_rest.ensures in
     let none = c.if-not-is_empty.ensures in
     record {
-      answer = no_more c.args.text.now c.read_fields-fields.result first.fault c.read_fields-fields.ensures c.in_default.ensures
+      answer = no_more c.args.text.now c.read_fields-fields.result first.fault c.read_fields-fields.ensures (sym c.in_default.ensures)
           (ap (lines_fault 2 ws) (sym first.rest) ∙ h.fault) c.read_rest.new.lines.rest.now
           (h.rest ∙ ap (drop (lines_size ws)) first.rest) (grind (arith, nat_tests));
     }
