@@ -1,8 +1,5 @@
 -- What a tag is answered whose sheet's hashes are at hand, and that within the limits it is what check answers. Assumes nothing.
-use Rattle.std.proofs.Common.{◌≡◌, ℕ, ◌^◌, ◌<◌, ◌≤◌, Bool, true, false, cond, List, length, take, Some, None, Ok, Err, Decides, sym, refl, ap, ◌∙◌, arith}
-use Rattle.std.proofs.lemmas.Slice.Eq.{bytes_eq-Decides}
-use Rattle.std.proofs.lemmas.List.{length-take}
-use Rattle.std.proofs.lemmas.Bool.Decides.{same_from_decides}
+use Rattle.std.proofs.Common.{◌≡◌, ℕ, ◌^◌, ◌<◌, ◌≤◌, Bool, true, false, cond, List, length, take, Some, None, Ok, Err, sym, refl, ap, ◌∙◌, arith}
 use Rattle.std.specs.Str.{bytes_eq}
 use Rattle.blocks.specs.Blocks.{bytes_of}
 use Rattle.keystream.specs.Counters.{block_at, const0, const1}
@@ -48,21 +45,3 @@ pub checked_by : (E : ℕ → ℕ) (N x y : ℕ) (h c t : List ℕ) (r : Answer 
 checked_by E N x y h c t r l ex ey er =
     let k = (limits_kept N (length h) (length c) (length t) (Ok tt) tt (sym l)).0 in
     answer_is E N x y h c t r ex ey er k.least k.most k.nonce k.header k.message
-
--- r compares a tag with the front of the bytes f
-pub compared : (r : Bool) (f t : List ℕ) → Decides r (take (length t) f ≡ t) → bytes_eq (take (length t) f) t ≡ r
-compared r f t d = same_from_decides (bytes_eq (take (length t) f) t) r (bytes_eq-Decides (take (length t) f) t) d
-
--- a longer tag is no front
-pub too_long : (f t : List ℕ) → length f < length t → bytes_eq (take (length t) f) t ≡ false
-too_long f t h = compared false f t ((λ e. absurd (no e)), λ e. absurd (less e))
-  where
-    no : false ≡ true → ⊥
-    no e = let z : ◌≡◌ {A = ℕ} 0 1 = cc in omega arith
-
-    less : take (length t) f ≡ t → ⊥
-    less e = omega (arith, length-take (length t) f, ap length e)
-
--- what the comparison makes of a tag
-pub told_by : (b : ℕ) (f t : List ℕ) (r : Bool) → f ≡ bytes_of 16 b → bytes_eq (take (length t) f) t ≡ r → tag_answer b t ≡ cond r (Ok tt) (Err tag_differs)
-told_by b f t r e d = ap (λ x. cond (bytes_eq (take (length t) x) t) (Ok tt) (Err tag_differs)) (sym e) ∙ ap (λ s. cond s (Ok tt) (Err tag_differs)) d

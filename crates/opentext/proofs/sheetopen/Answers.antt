@@ -1,5 +1,5 @@
 -- What the first two lines tell is opened, or the bad one is told.
-use Rattle.std.proofs.Common.{[], codes, sym, ap, ◌∙◌}
+use Rattle.std.proofs.Common.{[], codes, sym, ap}
 use Rattle.inputlines.specs.Faults.{line_number}
 use Rattle.inputlines.specs.Openings.{opening_told}
 use Rattle.opentext.proofs.Told.{told_as}
