@@ -29,6 +29,7 @@ impl Shown for Strip<'_> {
     fn show(&self, rt: &HostRuntime) -> io::Result<()> {
         println!(rt; "  {}", self.reading())?;
         print!(rt; "  cells ")?;
+        // as `sealday` prints bytes: a line each, and a Display for both would want a crate below them
         for cell in self.cells() {
             print!(rt; "{cell:02x}")?;
         }

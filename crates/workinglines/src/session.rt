@@ -165,6 +165,7 @@ impl Session {
         Ok(Some(Reply::Keyed(self.set_key(name, &key))))
     }
 
+    // The session of `cipherlines` has the same over another state, to which a shared body would have to be lent.
     fn set_key(&mut self, name: Name, key: &[u8]) -> Result<Name, KeyFault>
         ensures { (Some (Reply.Keyed result), session_state self.new) ≡ cipher_step (session_state self.old) (Some name) (Some key.now) }
     {
