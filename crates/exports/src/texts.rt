@@ -8,7 +8,7 @@ use sealtext::OUTPUT_BYTES;
 use std::alloc::Global;
 
 // What is returned for a buffer that is too small, and for want of memory: no output has so many bytes.
-// C has no Option.
+// C has no Option and lends its buffers, so a call answers a count, or one of these.
 const TOO_SMALL: usize = usize::MAX;
 
 const NO_MEMORY: usize = usize::MAX - 1;

@@ -53,7 +53,8 @@ pub(crate) fn bad_line(heap: Global, line: BadLine) -> Result<Vec<u8>, AllocErro
 }
 
 // The line that tells a refusal: its number, and what else it tells.
-// No Display of the faults: this program alone tells their values, the others tell the number.
+// No Display of the faults: this program alone tells their values, the others tell the number. What
+// is printed of a refusal is a number, so this takes one.
 fn refused_with(heap: Global, number: u8, values: &str) -> Result<Vec<u8>, AllocError>
     ensures { IfOk result (λ v. v.items ≡ told_line (codes "refused ") number values.now) }
 {

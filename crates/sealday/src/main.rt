@@ -206,7 +206,7 @@ fn show_reply(rt: &HostRuntime, reply: &Option<Reply>) -> io::Result<()> {
     }
 }
 
-// What was fed to a draft and what it wrote, both joined.
+// What was fed to a draft and what it wrote, both joined. Calls and replies are two lists, as the contract of `replay` has them.
 #[derive(Drop)]
 struct Pieces {
     header: Vec<u8>,

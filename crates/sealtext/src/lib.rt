@@ -19,7 +19,7 @@ mod text;
 // What lies behind so many bytes of an input does not exist.
 const INPUT_LIMIT: usize = 65536;
 
-// No output is longer.
+// No output is longer. There is no heap here: an output is an array of this length, and a count says how much of it is used.
 pub const OUTPUT_BYTES: usize = 65536;
 
 // What a register is handed that seals one sheet: the largest power, and a leftover byte that leaves the mark.

@@ -31,7 +31,7 @@ const LONGEST_KEY: usize = 32;
 
 const TAG_BYTES: u8 = 16;
 
-// The bytes that digits are, in a buffer that has room for them.
+// The bytes that digits are, in a buffer that has room for them. There is no heap here, so rooms are as long as can be.
 fn bytes_in<'a>(text: &[u8], room: &'a mut [u8]) -> &'a [u8]
     requires { length text.now / 2 ≤ length room.old }
     ensures { result.now ≡ unhex text.now }
@@ -53,7 +53,8 @@ fn cipher_of(name: Name, key: &[u8]) -> Result<Chosen, KeyFault>
     name.under_key(bytes_in(key, &mut room))
 }
 
-// A header in digits, of more bytes than a header may have, is refused as 1.
+// A header in digits, of more bytes than a header may have, is refused as 1. A draft would want the bytes to judge, for which there is
+// no room then.
 fn header_fits(header: &[u8]) -> Result<(), HeadFault>
     ensures { answered head_told result ≡ header_answer (unhex header.now) }
 {

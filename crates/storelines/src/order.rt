@@ -41,7 +41,8 @@ impl fmt::Display for Reply {
 }
 
 impl Order {
-    // `raise`, or `restart`, a space and a supply; `None` for any other line. (A function as `Start` has it, which can be no `FromStr`.)
+    // `raise`, or `restart`, a space and a supply; `None` for any other line. No `FromStr`, which would want an error type that says no
+    // more than `None`.
     pub fn from_line(line: &str) -> Option<Order>
         ensures { result ≡ order_of line.now }
     {
