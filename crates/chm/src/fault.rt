@@ -82,6 +82,7 @@ pub enum SealFault {
     Body(BodyFault),
 }
 
+// these by hand too
 impl From<BeginFault> for SealFault {
     ghost from_gives = { λ e r. r ≡ Begin e };
 

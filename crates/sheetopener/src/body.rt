@@ -20,6 +20,7 @@ pub(crate) fn split_line(text: &[u8], width: usize) -> (&[u8], &[u8])
     (&text[..2 * width], &text[2 * width + 1..])
 }
 
+// There is no heap here, so a line's bytes have a room as long as can be.
 // The hash of the bytes that one line's digits tell.
 pub(crate) fn hash_line(key: u128, digits: &[u8]) -> u128
     requires { length digits.now ≤ 8192 }

@@ -52,6 +52,7 @@ impl ReadSheet<'_> {
         let (header, body) = self.header_and_body();
         let header_hash = hash_line(header_key, header);
         let ciphertext_hash = hash_body(ciphertext_key, body, self.fields.message_len);
+        // no heap here: a room as long as can be
         let mut bytes = [0; TAG_MOST];
         let tag = &mut bytes[..self.fields.tag_len];
         decode(self.tag_digits(), tag);

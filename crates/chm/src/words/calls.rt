@@ -46,7 +46,7 @@ impl KeyWords {
         out.copy_from_slice(piece);
         let mut words = self;
         let mut at = 0;
-        // counted by hand: the first part may be short, and a proof knows nothing of what is written through `chunks_mut`
+        // counted by hand, as `Keystream::xor_onto`, but the words are kept between two pieces: the first part may be short, and a proof knows nothing of what is written through `chunks_mut`
         while at < out.len() {
             words = words.turn(stream);
             let skip = words.len % 16;
