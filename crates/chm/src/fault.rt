@@ -29,7 +29,7 @@ impl Refusal for HeadFault {
     ghost told = { head_told };
 
     fn number(&self) -> u8 {
-        *self as u8
+        HeadFault::HeaderTooLong as u8
     }
 }
 

@@ -14,6 +14,9 @@ use speck::Speck128_256;
 use std::fmt;
 use std::str::FromStr;
 
+// The bytes of `practice`; no other name has more.
+const LONGEST_NAME: usize = 8;
+
 // The ciphers that have a name.
 #[derive(Clone, Copy, Debug, PartialEq, Eq)]
 pub enum Name {
@@ -58,6 +61,10 @@ impl TryFrom<&[u8]> for Name {
     ghost try_from_gives = { λ t r. result_ok r ≡ name_of t.now };
 
     fn try_from(text: &[u8]) -> Result<Name, UnknownName> {
+        // a longer text is refused before it is read, however long it is
+        if text.len() > LONGEST_NAME {
+            return Err(UnknownName);
+        }
         str::from_utf8(text).map_err(|_| UnknownName)?.parse()
     }
 }

@@ -2,6 +2,7 @@
 -- Running: the key, the sum of the whole blocks so far, the part of the block that is being filled as a number, and how many
 -- bytes fill it.
 -- started k: no byte so far, under the key k.
+-- rekeyed k s: the same, under the key k from here on.
 -- stepped s b: a byte more.
 -- absorbed s p: the bytes p more.
 -- finished s: the hash, after the padding's bytes.
@@ -14,6 +15,9 @@ use Rattle.polyhash.specs.Hash.{hash}
 
 abbrev pub started : ℕ → Running
 started k = record { key = k; sum = 0; part = 0; fill = 0 }
+
+abbrev pub rekeyed : ℕ → Running → Running
+rekeyed k s = record { key = k; sum = s.sum; part = s.part; fill = s.fill }
 
 -- the part with a byte more at its end
 abbrev pub longer : ℕ → ℕ → ℕ

@@ -47,12 +47,10 @@ impl Start {
         let Some((cells, rest)) = parts(text) else {
             return Ok(None);
         };
-        let cells = digits::bytes(heap, cells.as_bytes())?;
-        let supply = supply::from_text(rest);
-        Ok(
-            cells
-                .zip(supply)
-                .map(|(cells, supply)| Start::Strip { cells, supply }),
-        )
+        // what follows bad cells is not read
+        let Some(cells) = digits::bytes(heap, cells.as_bytes())? else {
+            return Ok(None);
+        };
+        Ok(supply::from_text(rest).map(|supply| Start::Strip { cells, supply }))
     }
 }

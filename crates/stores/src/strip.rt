@@ -91,6 +91,10 @@ impl MarkStore for Strip<'_> {
             ≡ raised_cells (strip_cells self.old) self.old.on self.old.supply.power self.old.supply.leftover }
         ensures lent { self.new.cells.ghost_name ≡ self.old.cells.ghost_name }
     {
+        // before the reading, which looks through the cells
+        if !self.on {
+            return Err(RaiseFault::PowerFailed);
+        }
         let now = self.reading();
         let mark = now.mark as usize;
         if now.completes()? {

@@ -2,7 +2,7 @@
 ghost use Rattle.std.specs.Prelude.{◌≡◌, ℕ, List};
 ghost use Rattle.blocks.specs.Blocks.{AllBytes};
 ghost use Rattle.polyhash.specs.Hash.{hash};
-ghost use Rattle.polyhash.specs.Running.{started, stepped, absorbed, finished, Laws};
+ghost use Rattle.polyhash.specs.Running.{started, rekeyed, stepped, absorbed, finished, Laws};
 
 use crate::running::Running;
 use polynomials::multiply;
@@ -27,8 +27,14 @@ impl Running {
         self.key
     }
 
+    // The same running hash, under another key from here on.
+    pub fn under(self, key: u128) -> Running
+        ensures { result ≡ rekeyed key self }
+    {
+        Running { key, ..self }
+    }
+
     // Takes one byte; the sixteenth of a block ends it.
-    #[tactic(auto, using(crate::proofs::Runs::stepping))]
     fn step(&mut self, byte: u8)
         ensures { self.new ≡ stepped self.old byte }
     {
@@ -45,7 +51,6 @@ impl Running {
 
     // Takes the next bytes of the string. The second clause is the theorem on running hashes: the string may be cut into
     // pieces anywhere, and what is finished is its hash.
-    #[tactic(auto, using(crate::proofs::Runs::absorbing))]
     pub fn absorb(&mut self, bytes: &[u8])
         ensures value { self.new ≡ absorbed self.old bytes.now }
         ensures laws { Laws }
@@ -56,7 +61,6 @@ impl Running {
     }
 
     // Takes the padding's bytes and gives the hash of the whole string, whatever pieces it came in.
-    #[tactic(auto, using(crate::proofs::Runs::finishing))]
     pub fn finish(mut self) -> u128
         ensures value { result ≡ finished self }
         ensures whole { (m : List ℕ) → AllBytes m → self ≡ absorbed (started self.key) m → result ≡ hash self.key m }
