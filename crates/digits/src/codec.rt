@@ -36,7 +36,6 @@ fn byte_at(pair: &[u8; 2]) -> u8
 
 // Fills the front of a buffer with the bytes that digits are, as far as both reach; the rest of it stays. It judges nothing: a
 // character that is no digit counts as 0.
-#[tactic(auto, using(crate::proofs::Hexes::unhex_pairs))]
 pub fn decode(text: &[u8], out: &mut [u8])
     ensures { out.new ≡ decoded text.now out.old }
 {

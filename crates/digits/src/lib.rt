@@ -24,7 +24,6 @@ pub fn digit_value(c: char) -> Option<u8>
 }
 
 // The number that a text of just `count` digits is; `None` for any other text, and where `count` is above 32.
-#[tactic(auto, using(crate::proofs::Numbers::reading))]
 pub fn number(text: &[u8], count: usize) -> Option<u128>
     ensures value { result ≡ number_of count text.now }
     ensures bound { IfSome result (λ n. n < 2 ^ (4 * count)) }
@@ -41,7 +40,6 @@ pub fn number(text: &[u8], count: usize) -> Option<u128>
 }
 
 // The bytes that a text of digits is; `None` where it has another character or an odd number of digits.
-#[tactic(auto, using(crate::proofs::Pairs::pairing))]
 pub fn bytes(heap: Global, text: &[u8]) -> Result<Option<Vec<u8>>, AllocError>
     ensures { IfOk result (λ o. option_map vec_items o ≡ digits_bytes text.now) }
 {

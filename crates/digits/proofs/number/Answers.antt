@@ -1,8 +1,14 @@
 -- A turn reads one digit more, or meets a character that is none.
 use Rattle.std.proofs.Common.{◌≡◌, ℕ, ◌+◌, ◌*◌, ◌^◌, ◌<◌, List, get_or, Some, arith}
 use Rattle.digits.specs.Digits.{value_of}
-use Rattle.digits.proofs.Numbers.{value_lt, number_more, more_bits, few_bits}
+use Rattle.digits.proofs.Numbers.{value_lt, number_more, more_bits, few_bits, reading}
 use Rattle.digits.proofs.number.Goals as goal
+
+pub loop-c-init : goal.loop-c-init
+loop-c-init c = grind (arith, reading)
+
+pub returns-in_err-value-clause-value : goal.returns-in_err-value-clause-value
+returns-in_err-value-clause-value c = grind (arith, reading)
 
 -- what a turn makes of the sum fits
 next_fits : (cs : List ℕ) (i n d : ℕ) → i < 32 → n < 2 ^ (4 * i) → Some d ≡ value_of (get_or cs i 0) → n * 16 + d < 2 ^ 128

@@ -3,8 +3,11 @@ use Rattle.std.proofs.Common.{◌≡◌, ℕ, List, ◌++◌, map, take, drop, s
 use Rattle.std.proofs.lemmas.List.{set-get_or, length-map, length-drop}
 use Rattle.std.specs.Slice.Iter.{iter_rest}
 use Rattle.digits.specs.Hex.{unhex}
-use Rattle.digits.proofs.Hexes.{pair_value, first_left, front-more, front_all}
+use Rattle.digits.proofs.Hexes.{pair_value, unhex_pairs, first_left, front-more, front_all}
 use Rattle.digits.proofs.codec.decode.Goals as goal
+
+pub loop-byte-init : goal.loop-byte-init
+loop-byte-init c = grind (arith, unhex_pairs)
 
 pub loop-byte-preserved : goal.loop-byte-preserved
 loop-byte-preserved c =
