@@ -92,7 +92,6 @@ impl Draft {
 
     // Ends the draft: the nonce, the tag's length, and sixteen bytes, the tag and then zeros. The second clause ties drafts to the
     // published method, for every list of pieces.
-    #[tactic(auto, using(crate::proofs::Pieces::draft_laws))]
     pub fn finish(self) -> Sealed
         ensures value { result ≡ sealed self }
         ensures laws { DraftLaws }
