@@ -14,7 +14,6 @@ use sheetlines::layout::{FIRST_BYTES, FIRST_DIGITS};
 
 // The number that bytes are, the first the highest.
 // One loop for four widths; `from_be_bytes` would want an array of each.
-#[tactic(auto, using(crate::proofs::Sums::number_more, crate::proofs::Sums::pow_more, crate::proofs::Sums::seven_bytes))]
 fn number(bytes: &[u8]) -> u64
     requires { length bytes.now ≤ 8 }
     ensures { result ≡ number bytes.now }
