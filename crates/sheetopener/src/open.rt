@@ -16,7 +16,6 @@ use sheetreader::sheet::read_sheet;
 // the header's and 2 for the message's), then a tag that is not the sheet's (15), and leaves both buffers as they were. It tells
 // nonce, both lengths and the tag's length. The last clause ties it to check and to write.
 // No heap here: the caller lends the buffers, and `Fields` tells how much of them is filled.
-#[tactic(auto, using(crate::proofs::Proved::open_laws))]
 pub fn open<C: Permutation>(
     cipher: &C,
     text: &[u8],
