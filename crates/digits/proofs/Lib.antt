@@ -1,3 +1,4 @@
+pub mod Blocks
 pub mod Hexes
 pub mod Numbers
 pub mod Pairs

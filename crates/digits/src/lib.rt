@@ -7,6 +7,7 @@ ghost use Rattle.std.specs.Option.{option_map};
 
 use std::alloc::{AllocError, Global};
 
+pub mod block;
 pub mod codec;
 
 const MOST_DIGITS: usize = 32;
