@@ -6,6 +6,7 @@ ghost use Rattle.cipherlines.specs.Chosen.{chosen_image};
 use crate::chosen::{Chosen, Name};
 use ciphers::cipher::Permutation;
 use ciphers::fault::KeyFault;
+use digits::block::BlockDigits;
 use refusals::Refusal;
 use std::alloc::{AllocError, Global};
 use std::fmt;
@@ -28,7 +29,7 @@ pub enum Reply {
 
 // As `cipher aes`, `made aes of the key`, `refused 7` and, for a block, `BLOCK becomes IMAGE`.
 impl fmt::Display for Reply {
-    ghost output = { reply_text };
+    ghost output = { λ r. Some (reply_text r) };
 
     fn fmt<W: fmt::Write>(&self, f: &mut fmt::Formatter<W>) -> fmt::Result {
         match self {
@@ -38,7 +39,10 @@ impl fmt::Display for Reply {
                 let number = fault.number();
                 write!(f, "refused {number}")
             }
-            Reply::Image { block, image } => write!(f, "{block:032x} becomes {image:032x}"),
+            Reply::Image { block, image } => {
+                let (block, image) = (BlockDigits(*block), BlockDigits(*image));
+                write!(f, "{block} becomes {image}")
+            }
             Reply::Ended => Ok(()),
         }
     }
