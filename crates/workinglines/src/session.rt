@@ -10,6 +10,7 @@ use crate::topic::Topic;
 use cipherlines::chosen::{Chosen, Name};
 use cipherlines::session::BLOCK_DIGITS;
 use ciphers::fault::KeyFault;
+use digits::block::BlockDigits;
 use keystream::Keystream;
 use keystream::frame::last_counter;
 use method::limits::NONCE_END;
@@ -43,7 +44,7 @@ pub enum Reply {
 
 // As `made aes of the key`, `refused 7`, `nonce 3` and the like.
 impl fmt::Display for Reply {
-    ghost output = { reply_text };
+    ghost output = { λ r. Some (reply_text r) };
 
     fn fmt<W: fmt::Write>(&self, f: &mut fmt::Formatter<W>) -> fmt::Result {
         match self {
@@ -54,17 +55,28 @@ impl fmt::Display for Reply {
             }
             Reply::Nonce(nonce) => write!(f, "nonce {nonce}"),
             Reply::HashKeys { ciphertext, header } => {
-                write!(f, "hash keys {ciphertext:032x} and {header:032x}")
+                let (ciphertext, header) = (BlockDigits(*ciphertext), BlockDigits(*header));
+                write!(f, "hash keys {ciphertext} and {header}")
             }
-            Reply::Mask { frame, mask } => write!(f, "mask of frame {frame} is {mask:032x}"),
+            Reply::Mask { frame, mask } => {
+                let mask = BlockDigits(*mask);
+                write!(f, "mask of frame {frame} is {mask}")
+            }
             Reply::Block { index, block } => {
-                write!(f, "keystream block {index} is {block:032x}")
+                let block = BlockDigits(*block);
+                write!(f, "keystream block {index} is {block}")
             }
             Reply::Last(counter) => write!(f, "last counter {counter}"),
-            Reply::Product(product) => write!(f, "product {product:032x}"),
+            Reply::Product(product) => {
+                let product = BlockDigits(*product);
+                write!(f, "product {product}")
+            }
             Reply::Begun => f.write_str("a hash begins"),
             Reply::Absorbed(count) => write!(f, "absorbed {count} bytes"),
-            Reply::Hashed(hash) => write!(f, "hash {hash:032x}"),
+            Reply::Hashed(hash) => {
+                let hash = BlockDigits(*hash);
+                write!(f, "hash {hash}")
+            }
         }
     }
 }
