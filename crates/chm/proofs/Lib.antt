@@ -1,4 +1,5 @@
 pub mod Helds
 pub mod Keeps
+pub mod Parts
 pub mod Pieces
 pub mod Sealings

@@ -1,11 +1,27 @@
-ghost use Rattle.std.specs.Prelude.{◌≡◌, ◌+◌, ◌^◌, ◌<◌, length};
+ghost use Rattle.std.specs.Prelude.{◌≡◌, ◌+◌, ◌^◌, ◌<◌, ◌≤◌, length};
+ghost use Rattle.keystream.specs.Counters.{xored};
 ghost use Rattle.chm.specs.Words.{turned, steps, sent};
 
 use crate::words::KeyWords;
+use blocks::BLOCK_BYTES;
 use ciphers::cipher::Permutation;
 use keystream::Keystream;
 use keystream::frame::FRAME_BLOCKS;
 use keystream::stream::xor_part;
+
+// Writes a part of at most one block, xored with the bytes of a keystream block from `skip` on. It is xored in a room of its own, and not
+// in the output: that may be memory which others read, or which outlasts a power cut, so it is given ciphertext alone.
+fn put_part(word: u128, skip: usize, part: &[u8], out: &mut [u8])
+    requires small { length part.now ≤ 16 }
+    requires lengths { length out.old ≡ length part.now }
+    ensures { out.new ≡ xored word skip part.now }
+{
+    let mut room = [0; BLOCK_BYTES];
+    let bytes = &mut room[..part.len()];
+    bytes.copy_from_slice(part);
+    xor_part(word, skip, bytes);
+    out.copy_from_slice(bytes);
+}
 
 impl KeyWords {
     // The words for the next byte.
@@ -43,15 +59,14 @@ impl KeyWords {
         ensures wrote { out.new ≡ sent (C.image stream.now.cipher.now) stream.now.nonce self piece.now }
         ensures words { result ≡ steps (C.image stream.now.cipher.now) stream.now.nonce self (length piece.now) }
     {
-        out.copy_from_slice(piece);
         let mut words = self;
         let mut at = 0;
         // counted by hand, as `Keystream::xor_onto`, but the words are kept between two pieces: the first part may be short, and a proof knows nothing of what is written through `chunks_mut`
-        while at < out.len() {
+        while at < piece.len() {
             words = words.turn(stream);
             let skip = words.len % 16;
-            let end = out.len().min(at + (16 - skip));
-            xor_part(words.word, skip, &mut out[at..end]);
+            let end = piece.len().min(at + (16 - skip));
+            put_part(words.word, skip, &piece[at..end], &mut out[at..end]);
             words.len += end - at;
             at = end;
         }
