@@ -1,7 +1,6 @@
 -- Bytes as digits and back: lengths, places, and that each way undoes the other. Assumes nothing.
-use Rattle.std.proofs.Common.{◌≡◌, ℕ, zero, suc, ◌+◌, ◌*◌, ◌/◌, ◌%◌, ◌<◌, min, true, List, [], ◌∷◌, ◌++◌, map, length, get_or, take, drop, set, refl, ap, ◌∙◌, inl, inr, append_assoc, arith, rules}
-use Rattle.std.proofs.lemmas.List.{set_at, take_more, drop_more, drop_all, length-take-le}
-use Rattle.std.proofs.lemmas.Bool.{cases_lt}
+use Rattle.std.proofs.Common.{◌≡◌, ℕ, zero, suc, ◌+◌, ◌*◌, ◌/◌, ◌%◌, ◌<◌, min, true, List, [], ◌∷◌, ◌++◌, map, length, get_or, take, drop, set, refl, ap, ◌∙◌, append_assoc, arith, rules}
+use Rattle.std.proofs.lemmas.List.{set_at, take_more, drop_more, length-take-le}
 use Rattle.std.proofs.lemmas.Grind.{common_steps}
 use Rattle.std.proofs.lemmas.Bool.Decides.{nat_tests}
 use Rattle.std.specs.Simd.{first_chunks}
@@ -43,14 +42,6 @@ unhex_pairs (a ∷ b ∷ cs) zero h = absurd (omega arith)
 unhex_pairs (a ∷ b ∷ cs) (suc k) h = ap (λ (v : List ℕ). (16 * value a + value b) ∷ v) (unhex_pairs cs k (omega arith))
 
 -- ## A buffer that is filled
-
--- what is left of a list, as its first item and the rest
-pub first_left : (u r : List ℕ) (i x : ℕ) → drop i u ≡ x ∷ r → (i < length u) × (x ≡ get_or u i 0) × (r ≡ drop (i + 1) u)
-first_left u r i x e =
-    elim (cases_lt i (length u)) [
-      | inl h ↦ let m = drop_more u i 0 h in (h, cc, cc)
-      | inr h ↦ let n = drop_all i u h in cc
-    ]
 
 -- one byte more at the front of a buffer
 pub front-more : (u out : List ℕ) (i : ℕ) → i < length u → i < length out → set (take i u ++ drop i out) i (get_or u i 0) ≡ take (i + 1) u ++ drop (i + 1) out

@@ -40,12 +40,10 @@ pub fn decode(text: &[u8], out: &mut [u8])
     ensures { out.new ≡ decoded text.now out.old }
 {
     let (pairs, _) = text.as_chunks::<2>();
-    // No `zip` of `iter_mut`: the library says nothing of the values that are written through one.
-    let mut pairs = pairs.iter();
-    for byte in out.iter_mut() {
-        let Some(pair) = pairs.next() else {
-            return;
-        };
-        *byte = byte_at(pair);
+    let count = out.len().min(pairs.len());
+    // No `zip` of `iter_mut`: the library says nothing of the values that are written through one. And no turn that may leave the
+    // loop: the compiler then takes one pair at a time.
+    for (i, pair) in pairs[..count].iter().enumerate() {
+        out[i] = byte_at(pair);
     }
 }

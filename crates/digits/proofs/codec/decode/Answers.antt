@@ -1,32 +1,37 @@
 -- A turn reads two digits and puts one byte more at the buffer's front.
-use Rattle.std.proofs.Common.{◌≡◌, ℕ, List, ◌++◌, map, take, drop, set, length, sym, ap, ◌∙◌, arith}
-use Rattle.std.proofs.lemmas.List.{set-get_or, length-map, length-drop}
-use Rattle.std.specs.Slice.Iter.{iter_rest}
+use Rattle.std.proofs.Common.{◌≡◌, ℕ, ◌/◌, ◌<◌, List, [], ◌++◌, map, length, get_or, take, drop, set, refl, sym, ap, ◌∙◌, arith}
+use Rattle.std.proofs.lemmas.List.{get_or-map, get_or-take, length-take-le}
+use Rattle.std.specs.Simd.{first_chunks}
 use Rattle.digits.specs.Hex.{unhex}
-use Rattle.digits.proofs.Hexes.{pair_value, unhex_pairs, first_left, front-more, front_all}
+use Rattle.digits.proofs.Hexes.{pair_value, length-unhex, unhex_pairs, front-more, front_all}
 use Rattle.digits.proofs.codec.decode.Goals as goal
 
-pub loop-byte-init : goal.loop-byte-init
-loop-byte-init c = grind (arith, unhex_pairs)
+pair_at : (cs : List ℕ) (ps : List (List ℕ)) (n i : ℕ) → ps ≡ first_chunks 2 (length cs / 2) cs → i < n → i < length ps
+    → pair_value (get_or (take n ps) i []) ≡ get_or (unhex cs) i 0
+pair_at cs ps n i e h l =
+    ap pair_value (get_or-take n ps i [] h)
+    ∙ sym (get_or-map pair_value ps i [] 0 l)
+    ∙ ap (λ qs. get_or (map pair_value qs) i 0) e
+    ∙ ap (λ bs. get_or bs i 0) (unhex_pairs cs (length cs / 2) refl)
 
-pub loop-byte-preserved : goal.loop-byte-preserved
-loop-byte-preserved c =
-    let u = unhex c.args.text.now in
-    let i = c.loop-byte.byte-index in
-    let more = map pair_value (iter_rest c.next.new.self) in
-    let at = first_left u more i (pair_value c.in-Some.pair.now) (sym c.loop-byte.invariant.left ∙ ap (map pair_value) c.in-Some.ensures.steps) in
-    record {
-      filled =
-          ap (λ (y : List ℕ). set y i c.byte_at.result) c.loop-byte.invariant.filled
-          ∙ ap (set (take i u ++ drop i c.args.out.now) i) (c.byte_at.ensures ∙ at.1)
-          ∙ front-more u c.args.out.now i at.0 (omega arith);
-      left = at.2;
-      within = omega (arith, at.0);
-    }
+pub loop-i-preserved : goal.loop-i-preserved
+loop-i-preserved c =
+    let cs = c.args.text.now in
+    let out = c.args.out.now in
+    let ps = c.as_chunks.result.0.now in
+    let n = c.min-count.result in
+    let i = c.loop-i.i in
+    let u = length-unhex cs in
+    let all : length (take n ps) ≡ n = length-take-le n ps (omega arith) in
+    ap (λ (y : List ℕ). set y i c.byte_at.result) c.loop-i.invariant
+    ∙ ap (set (take i (unhex cs) ++ drop i out) i) (c.byte_at.ensures ∙ pair_at cs ps n i c.as_chunks.ensures.front (omega arith) (omega arith))
+    ∙ front-more (unhex cs) out i (omega arith) (omega arith)
 
-pub returns-in_default : goal.returns-in_default
-returns-in_default c =
-    let u = unhex c.args.text.now in
-    let i = c.loop-byte.byte-index in
-    let none : length (drop i u) ≡ 0 = sym (ap length c.loop-byte.invariant.left) ∙ length-map (iter_rest c.loop-byte.pairs) pair_value ∙ c.in_default.ensures.steps.0 in
-    set-get_or c.loop-byte.out i 0 ∙ c.loop-byte.invariant.filled ∙ front_all u c.args.out.now i (omega (arith, length-drop i u))
+pub returns : goal.returns
+returns c =
+    let cs = c.args.text.now in
+    let ps = c.as_chunks.result.0.now in
+    let n = c.min-count.result in
+    let u = length-unhex cs in
+    let all : length (take n ps) ≡ n = length-take-le n ps (omega arith) in
+    c.loop-i.invariant ∙ front_all (unhex cs) c.args.out.now c.loop-i.i (omega arith)
